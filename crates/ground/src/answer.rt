@@ -1,0 +1,52 @@
+// Document 01's answers: a case for each, and the numbers that it returns.
+ghost use mathlib.Core.Path.{_≡_};
+ghost use Rattle.ground.specs.Answer.{numbersOf};
+
+pub enum Answer {
+    // The work is done: characters or words, and the cost.
+    Done { count: u32, cost: i32 },
+    // The text has too many bytes or too many characters.
+    TooLong,
+    // The text is no UTF-8 from this byte on.
+    NotUtf8 { place: u32 },
+    // A row to be written has too few places.
+    ShortRow,
+}
+
+// The four numbers of an answer, as they cross to C.
+#[repr(C)]
+pub struct Numbers {
+    pub number: u32,
+    pub place: u32,
+    pub count: u32,
+    pub cost: i32,
+}
+
+fn refusal(number: u32, place: u32) -> Numbers
+    ensures { λ r. ⌜ r ≡ Rattle.ground.specs.Answer.refusal number place ⌝ }
+{
+    Numbers {
+        number,
+        place,
+        count: 0,
+        cost: 0,
+    }
+}
+
+impl Answer {
+    pub fn numbers(self) -> Numbers
+        ensures { λ r. ⌜ r ≡ numbersOf self ⌝ }
+    {
+        match self {
+            Answer::Done { count, cost } => Numbers {
+                number: 0,
+                place: 0,
+                count,
+                cost,
+            },
+            Answer::TooLong => refusal(2, 0),
+            Answer::NotUtf8 { place } => refusal(1, place),
+            Answer::ShortRow => refusal(7, 0),
+        }
+    }
+}

@@ -1,0 +1,50 @@
+// The mode and the charge (document 01, piece 4).
+use crate::signed;
+ghost use mathlib.Core.Path.{_≡_};
+ghost use Prim.Native.Nat.{_≤_};
+ghost use lib.IntN.{pos};
+ghost use Rattle.ground.specs.Limits.{priceLimit};
+ghost use Rattle.ground.specs.Charge.{charge, above, Priced};
+
+// Two thresholds and two prices: of kanji only words, and of others.
+pub struct Penalty {
+    pub kanji_threshold: u16,
+    pub kanji_price: u16,
+    pub other_threshold: u16,
+    pub other_price: u16,
+}
+
+pub enum Mode {
+    Normal,
+    Decompose(Penalty),
+}
+
+fn charged_above(len: u16, threshold: u16, price: u16) -> i32
+    requires { ⌜ price ≤ priceLimit ⌝ }
+    ensures { λ r. ⌜ r ≡ pos (above len threshold price) ⌝ }
+{
+    if threshold < len {
+        signed::whole(((len - threshold) as u32) * (price as u32))
+    } else {
+        0
+    }
+}
+
+impl Mode {
+    // The charge of a word of len characters, at whose first one the kanji run is run.
+    pub fn charge(self, run: u16, len: u16) -> i32
+        requires { ⌜ Priced self ⌝ }
+        ensures { λ r. ⌜ r ≡ pos (charge self run len) ⌝ }
+    {
+        match self {
+            Mode::Normal => 0,
+            Mode::Decompose(p) => {
+                if len <= run {
+                    charged_above(len, p.kanji_threshold, p.kanji_price)
+                } else {
+                    charged_above(len, p.other_threshold, p.other_price)
+                }
+            }
+        }
+    }
+}

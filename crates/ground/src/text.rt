@@ -1,0 +1,374 @@
+// The text (document 01, piece 2): UTF-8 by the table of lead bytes, kanji, and the two rows of the character table.
+use crate::answer::Answer;
+ghost use mathlib.Core.Path.{_≡_};
+ghost use mathlib.Core.Bool.{true};
+ghost use Prim.Native.Nat.{_+_, _-_, _*_, _%_, _<_, _≤_};
+ghost use lib.ListN.{length, take, drop, getD};
+ghost use Rattle.ground.specs.Limits.{textLimit, characterLimit};
+ghost use Rattle.ground.specs.Text.{
+  leads,
+  rowOf,
+  isLead,
+  isSecond,
+  isLater,
+  letterOf,
+  letterAt,
+  letters,
+  sizes,
+  wellFormed,
+  offsets,
+  runs,
+  isKanji,
+};
+ghost use Rattle.ground.specs.Characters.{checked, characters, table, over};
+ghost use Rattle.ground.specs.Filling.{markOf, marks, counted};
+
+// The most bytes and the most characters of a text.
+pub const TEXT_LIMIT: usize = 16_384;
+
+pub const CHARACTER_LIMIT: usize = 4_096;
+
+// A row of RFC 3629's table: lead bytes, second bytes, and the character's length.
+pub struct Lead {
+    pub low: u8,
+    pub high: u8,
+    pub second_low: u8,
+    pub second_high: u8,
+    pub size: usize,
+}
+
+const LEADS: [Lead; 9] = [
+    Lead {
+        low: 0x00,
+        high: 0x7f,
+        second_low: 0x00,
+        second_high: 0x00,
+        size: 1,
+    },
+    Lead {
+        low: 0xc2,
+        high: 0xdf,
+        second_low: 0x80,
+        second_high: 0xbf,
+        size: 2,
+    },
+    Lead {
+        low: 0xe0,
+        high: 0xe0,
+        second_low: 0xa0,
+        second_high: 0xbf,
+        size: 3,
+    },
+    Lead {
+        low: 0xe1,
+        high: 0xec,
+        second_low: 0x80,
+        second_high: 0xbf,
+        size: 3,
+    },
+    Lead {
+        low: 0xed,
+        high: 0xed,
+        second_low: 0x80,
+        second_high: 0x9f,
+        size: 3,
+    },
+    Lead {
+        low: 0xee,
+        high: 0xef,
+        second_low: 0x80,
+        second_high: 0xbf,
+        size: 3,
+    },
+    Lead {
+        low: 0xf0,
+        high: 0xf0,
+        second_low: 0x90,
+        second_high: 0xbf,
+        size: 4,
+    },
+    Lead {
+        low: 0xf1,
+        high: 0xf3,
+        second_low: 0x80,
+        second_high: 0xbf,
+        size: 4,
+    },
+    Lead {
+        low: 0xf4,
+        high: 0xf4,
+        second_low: 0x80,
+        second_high: 0x8f,
+        size: 4,
+    },
+];
+
+pub enum LeadFound {
+    Row(Lead),
+    NoRow,
+}
+
+// A character: its length in bytes and its code point.
+pub struct Letter {
+    pub size: usize,
+    pub code: u32,
+}
+
+// What the bytes begin with.
+pub enum Next {
+    Whole(Letter),
+    Broken,
+}
+
+// The row that has the byte as a lead byte.
+fn row_of(byte: u8) -> LeadFound
+    ensures { λ r. ⌜ r ≡ rowOf leads byte ⌝ }
+{
+    let mut i = 0;
+    while i < 9 {
+        let row = LEADS[i];
+        if byte <= row.high {
+            if row.low <= byte {
+                return LeadFound::Row(row);
+            }
+        }
+        i += 1;
+    }
+    LeadFound::NoRow
+}
+
+fn is_second(row: Lead, byte: u8) -> bool
+    ensures { λ r. ⌜ r ≡ isSecond row byte ⌝ }
+{
+    if byte < row.second_low {
+        return false;
+    }
+    byte <= row.second_high
+}
+
+fn is_later(byte: u8) -> bool
+    ensures { λ r. ⌜ r ≡ isLater byte ⌝ }
+{
+    if byte < 0x80 {
+        return false;
+    }
+    byte <= 0xbf
+}
+
+fn wide(x: u8) -> u32
+    ensures { λ r. ⌜ r ≡ x ⌝ }
+{
+    x as u32
+}
+
+// The code so far with the six bits of one more byte.
+fn with_six(code: u32, byte: u8) -> u32
+    requires { ⌜ code < 65536 ⌝ }
+    ensures { λ r. ⌜ r ≡ code * 64 + byte % 64 ⌝ }
+{
+    code * 64 + wide(byte) % 64
+}
+
+fn letter_of(size: usize, code: u32) -> Next
+    ensures { λ r. ⌜ r ≡ Next.Whole (record { size = size; code = code }) ⌝ }
+{
+    Next::Whole(Letter { size, code })
+}
+
+// The character of a row that the bytes begin with. Their first byte is one of the row's lead bytes.
+fn letter_by(row: Lead, bytes: &[u8]) -> Next
+    requires { ⌜ (1 ≤ row .size) × (row .size ≤ 4) × (0 < length (now bytes)) ⌝ }
+    ensures { λ r. ⌜ r ≡ letterOf row (getD (now (bytes .entry)) 0 0) (take (row .size - 1) (drop 1 (now (bytes .entry)))) ⌝ }
+{
+    let size = row.size;
+    if bytes.len() < size {
+        return Next::Broken;
+    }
+    if size == 1 {
+        return letter_of(1, wide(bytes[0]));
+    }
+    if !is_second(row, bytes[1]) {
+        return Next::Broken;
+    }
+    if size == 2 {
+        return letter_of(2, with_six(wide(bytes[0]) % 32, bytes[1]));
+    }
+    if !is_later(bytes[2]) {
+        return Next::Broken;
+    }
+    if size == 3 {
+        return letter_of(
+            3,
+            with_six(with_six(wide(bytes[0]) % 16, bytes[1]), bytes[2]),
+        );
+    }
+    if !is_later(bytes[3]) {
+        return Next::Broken;
+    }
+    letter_of(
+        4,
+        with_six(
+            with_six(with_six(wide(bytes[0]) % 8, bytes[1]), bytes[2]),
+            bytes[3],
+        ),
+    )
+}
+
+// The character that stands at a place of the text.
+fn letter_at(text: &[u8], at: usize) -> Next
+    requires { ⌜ at < length (now text) ⌝ }
+    ensures { λ r. ⌜ r ≡ letterAt (drop at (now (text .entry))) ⌝ }
+{
+    match row_of(text[at]) {
+        LeadFound::Row(row) => letter_by(row, &text[at..]),
+        LeadFound::NoRow => Next::Broken,
+    }
+}
+
+// How many whole well-formed characters the text begins with, and how many bytes they take.
+pub struct Measured {
+    pub characters: usize,
+    pub bytes: usize,
+}
+
+fn measure(text: &[u8]) -> Measured
+    ensures { λ r. ⌜ (r .characters ≡ length (letters (now (text .entry)))) × (r .bytes ≡ sizes (letters (now (text .entry)))) ⌝ }
+{
+    let mut at = 0;
+    let mut n = 0;
+    while at < text.len() {
+        let Next::Whole(letter) = letter_at(text, at) else {
+            return Measured {
+                characters: n,
+                bytes: at,
+            };
+        };
+        at += letter.size;
+        n += 1;
+    }
+    Measured {
+        characters: n,
+        bytes: at,
+    }
+}
+
+// What the tests of a text tell.
+pub enum Checked {
+    Passed { characters: usize },
+    Refused(Answer),
+}
+
+// The tests of a text in document 01's order. Nothing is written.
+pub fn check(text: &[u8]) -> Checked
+    ensures { λ r. ⌜ r ≡ checked (now (text .entry)) ⌝ }
+{
+    if TEXT_LIMIT < text.len() {
+        return Checked::Refused(Answer::TooLong);
+    }
+    let m = measure(text);
+    if m.bytes < text.len() {
+        return Checked::Refused(Answer::NotUtf8 {
+            place: m.bytes as u32,
+        });
+    }
+    if CHARACTER_LIMIT < m.characters {
+        return Checked::Refused(Answer::TooLong);
+    }
+    Checked::Passed {
+        characters: m.characters,
+    }
+}
+
+// 1 for a kanji and 0 for another character.
+fn mark_of(code: u32) -> u16
+    ensures { λ r. ⌜ r ≡ markOf code ⌝ }
+{
+    if code < 0x3400 {
+        return 0;
+    }
+    if code <= 0x4dbf {
+        return 1;
+    }
+    if code < 0x4e00 {
+        return 0;
+    }
+    if code <= 0x9faf {
+        return 1;
+    }
+    0
+}
+
+// The offset row, and in the run row a mark for each character.
+fn fill_marks(text: &[u8], offset: &mut [u32], run: &mut [u16])
+    requires { ⌜ length (now text) ≤ textLimit ⌝ }
+    requires { ⌜ sizes (letters (now text)) ≡ length (now text) ⌝ }
+    requires { ⌜ (length (letters (now text)) < length (now offset)) × (length (letters (now text)) < length (now run)) ⌝ }
+    ensures { λ _. ⌜ now (offset .exit) ≡ over (offsets (letters (now (text .entry)))) (now (offset .entry)) ⌝ }
+    ensures { λ _. ⌜ now (run .exit) ≡ over (marks (letters (now (text .entry)))) (now (run .entry)) ⌝ }
+{
+    let mut at = 0;
+    let mut i = 0;
+    while at < text.len() {
+        let Next::Whole(letter) = letter_at(text, at) else {
+            return;
+        };
+        offset[i] = at as u32;
+        run[i] = mark_of(letter.code);
+        at += letter.size;
+        i += 1;
+    }
+    offset[i] = at as u32;
+    run[i] = 0;
+}
+
+// The first n places of the row, marks, made runs from the right.
+fn count_runs(run: &mut [u16], n: usize)
+    requires { ⌜ (n < length (now run)) × (n ≤ characterLimit) × (getD (now run) n 0 ≡ 0) ⌝ }
+    ensures { λ _. ⌜ now (run .exit) ≡ counted (take n (now (run .entry))) (drop n (now (run .entry))) ⌝ }
+{
+    let mut i = n;
+    while 0 < i {
+        i -= 1;
+        if run[i] != 0 {
+            run[i] = 1 + run[i + 1];
+        }
+    }
+}
+
+// Both rows of the character table, of a text that passed its tests and has n characters.
+pub fn fill(text: &[u8], n: usize, offset: &mut [u32], run: &mut [u16])
+    requires { ⌜ length (now text) ≤ textLimit ⌝ }
+    requires { ⌜ sizes (letters (now text)) ≡ length (now text) ⌝ }
+    requires { ⌜ (n ≡ length (letters (now text))) × (n ≤ characterLimit) ⌝ }
+    requires { ⌜ (n < length (now offset)) × (n < length (now run)) ⌝ }
+    ensures { λ _. ⌜ now (offset .exit) ≡ over (offsets (letters (now (text .entry)))) (now (offset .entry)) ⌝ }
+    ensures { λ _. ⌜ now (run .exit) ≡ over (runs (letters (now (text .entry)))) (now (run .entry)) ⌝ }
+{
+    fill_marks(text, offset, run);
+    count_runs(run, n);
+}
+
+// The public operation "character table alone".
+pub fn characters(text: &[u8], offset: &mut [u32], run: &mut [u16]) -> Answer
+    ensures { λ r. ⌜
+        table r (now (offset .exit)) (now (run .exit))
+        ≡ Rattle.ground.specs.Characters.characters (now (text .entry)) (now (offset .entry)) (now (run .entry))
+        ⌝ }
+{
+    match check(text) {
+        Checked::Refused(answer) => answer,
+        Checked::Passed { characters } => {
+            if offset.len() <= characters {
+                return Answer::ShortRow;
+            }
+            if run.len() <= characters {
+                return Answer::ShortRow;
+            }
+            fill(text, characters, offset, run);
+            Answer::Done {
+                count: characters as u32,
+                cost: 0,
+            }
+        }
+    }
+}
