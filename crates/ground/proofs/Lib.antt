@@ -1,0 +1,8 @@
+pub mod SignedLaws
+pub mod EntryLaws
+pub mod MatrixLaws
+pub mod ChargeLaws
+pub mod TextLaws
+pub mod RowLaws
+pub mod CharacterLaws
+mod Filled

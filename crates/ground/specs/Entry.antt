@@ -33,10 +33,14 @@ unfoldable pub entryOf : List ℕ → Entry
 entryOf bytes =
     record { id = u32At bytes 0; cost = signed16 (u16At bytes 4); «left_id» = u16At bytes 6; «right_id» = u16At bytes 8 }
 
--- Candidate k's word entry: the ten bytes from 10 × k on.
+-- Candidate k's ten bytes: those from 10 × k on.
+abbrev pub entryPart : List ℕ → ℕ → List ℕ
+entryPart bytes k = take entryBytes (drop (entryBytes * k) bytes)
+
+-- Candidate k's word entry.
 unfoldable pub entryAt : List ℕ → ℕ → Entry
 unfolding entryOf
-entryAt bytes k = entryOf (take entryBytes (drop (entryBytes * k) bytes))
+entryAt bytes k = entryOf (entryPart bytes k)
 
 -- 0 system, 1 user, 2 unknown; any other number names no kind.
 abbrev pub kindOf : ℕ → Kind

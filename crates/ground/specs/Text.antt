@@ -128,8 +128,11 @@ abbrev pub isKanji : ℕ → Bool
 isKanji code = within 0x4e00 0x9faf code || within 0x3400 0x4dbf code
 
 -- Run row: 0 if the character is no kanji, otherwise 1 + the run behind it; behind the last one 0.
+abbrev pub runOf : Bool → ℕ → ℕ
+runOf kanji behind = cond kanji (1 + behind) 0
+
 abbrev pub runAhead : Bool → List ℕ → List ℕ
-runAhead kanji behind = cond kanji (1 + getD behind 0 0) 0 ∷ behind
+runAhead kanji behind = runOf kanji (getD behind 0 0) ∷ behind
 
 unfoldable pub runs : List Letter → List ℕ
 runs [] = 0 ∷ []

@@ -3,7 +3,7 @@ use crate::signed;
 ghost use mathlib.Core.Path.{_≡_};
 ghost use Prim.Native.Nat.{_+_, _*_, _≤_, _<_};
 ghost use lib.ListN.{length};
-ghost use Rattle.ground.specs.Entry.{entryOf, entryAt, entryBytes, u16At, u32At, kindOf};
+ghost use Rattle.ground.specs.Entry.{entryOf, entryAt, entryPart, entryBytes, u16At, u32At, kindOf};
 
 pub struct Entry {
     pub id: u32,
@@ -57,14 +57,22 @@ impl Entry {
         }
     }
 
-    // Candidate k's entry, from the part of the lent bytes that starts at 10 × k.
+    // Candidate k's ten bytes: the part of the lent bytes that starts at 10 × k.
+    fn part(bytes: &[u8], k: usize) -> &[u8]
+        requires { ⌜ entryBytes * k + entryBytes ≤ length (now bytes) ⌝ }
+        ensures { λ r. ⌜ (now r ≡ entryPart (now (bytes .entry)) k) × (length (now r) ≡ entryBytes) ⌝ }
+    {
+        let from = Self::BYTES * k;
+        let to = from + Self::BYTES;
+        &bytes[from..to]
+    }
+
+    // Candidate k's entry.
     pub fn read(bytes: &[u8], k: usize) -> Entry
         requires { ⌜ entryBytes * k + entryBytes ≤ length (now bytes) ⌝ }
         ensures { λ r. ⌜ r ≡ entryAt (now (bytes .entry)) k ⌝ }
     {
-        let from = Self::BYTES * k;
-        let to = from + Self::BYTES;
-        Self::of(&bytes[from..to])
+        Self::of(Self::part(bytes, k))
     }
 
     // Candidate k's right id alone: two bytes, for the relaxation's inner loop.
@@ -72,9 +80,7 @@ impl Entry {
         requires { ⌜ entryBytes * k + entryBytes ≤ length (now bytes) ⌝ }
         ensures { λ r. ⌜ r ≡ entryAt (now (bytes .entry)) k .«right_id» ⌝ }
     {
-        let from = Self::BYTES * k;
-        let to = from + Self::BYTES;
-        two(&bytes[from..to], 8)
+        two(Self::part(bytes, k), 8)
     }
 }
 

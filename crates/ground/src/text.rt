@@ -8,9 +8,9 @@ ghost use Rattle.ground.specs.Limits.{textLimit, characterLimit};
 ghost use Rattle.ground.specs.Text.{
   leads,
   rowOf,
-  isLead,
-  isSecond,
-  isLater,
+  mayFollow,
+  leadBits,
+  sixBits,
   letterOf,
   letterAt,
   letters,
@@ -18,15 +18,21 @@ ghost use Rattle.ground.specs.Text.{
   wellFormed,
   offsets,
   runs,
+  runOf,
   isKanji,
 };
 ghost use Rattle.ground.specs.Characters.{checked, characters, table, over};
-ghost use Rattle.ground.specs.Filling.{markOf, marks, counted};
+ghost use Rattle.ground.specs.Filling.{Sound, markOf, marked, marks, counted};
 
 // The most bytes and the most characters of a text.
 pub const TEXT_LIMIT: usize = 16_384;
 
 pub const CHARACTER_LIMIT: usize = 4_096;
+
+// The bytes that may stand third and fourth.
+const LATER_LOW: u8 = 0x80;
+
+const LATER_HIGH: u8 = 0xbf;
 
 // A row of RFC 3629's table: lead bytes, second bytes, and the character's length.
 pub struct Lead {
@@ -120,6 +126,16 @@ pub enum Next {
     Broken,
 }
 
+// Whether a byte lies in a range, both ends in it.
+fn within(low: u8, high: u8, byte: u8) -> bool
+    ensures { λ r. ⌜ r ≡ Rattle.ground.specs.Text.within low high byte ⌝ }
+{
+    if high < byte {
+        return false;
+    }
+    low <= byte
+}
+
 // The row that has the byte as a lead byte.
 fn row_of(byte: u8) -> LeadFound
     ensures { λ r. ⌜ r ≡ rowOf leads byte ⌝ }
@@ -127,32 +143,12 @@ fn row_of(byte: u8) -> LeadFound
     let mut i = 0;
     while i < 9 {
         let row = LEADS[i];
-        if byte <= row.high {
-            if row.low <= byte {
-                return LeadFound::Row(row);
-            }
+        if within(row.low, row.high, byte) {
+            return LeadFound::Row(row);
         }
         i += 1;
     }
     LeadFound::NoRow
-}
-
-fn is_second(row: Lead, byte: u8) -> bool
-    ensures { λ r. ⌜ r ≡ isSecond row byte ⌝ }
-{
-    if byte < row.second_low {
-        return false;
-    }
-    byte <= row.second_high
-}
-
-fn is_later(byte: u8) -> bool
-    ensures { λ r. ⌜ r ≡ isLater byte ⌝ }
-{
-    if byte < 0x80 {
-        return false;
-    }
-    byte <= 0xbf
 }
 
 fn wide(x: u8) -> u32
@@ -169,13 +165,49 @@ fn with_six(code: u32, byte: u8) -> u32
     code * 64 + wide(byte) % 64
 }
 
-fn letter_of(size: usize, code: u32) -> Next
-    ensures { λ r. ⌜ r ≡ Next.Whole (record { size = size; code = code }) ⌝ }
+// Whether what stands behind the lead byte may follow it.
+fn may_follow(row: Lead, bytes: &[u8]) -> bool
+    requires { ⌜ (1 ≤ row .size) × (row .size ≤ 4) × (row .size ≤ length (now bytes)) ⌝ }
+    ensures { λ r. ⌜ r ≡ mayFollow row (take (row .size - 1) (drop 1 (now (bytes .entry)))) ⌝ }
 {
-    Next::Whole(Letter { size, code })
+    let size = row.size;
+    if size == 1 {
+        return true;
+    }
+    if !within(row.second_low, row.second_high, bytes[1]) {
+        return false;
+    }
+    if size == 2 {
+        return true;
+    }
+    if !within(LATER_LOW, LATER_HIGH, bytes[2]) {
+        return false;
+    }
+    if size == 3 {
+        return true;
+    }
+    within(LATER_LOW, LATER_HIGH, bytes[3])
 }
 
-// The character of a row that the bytes begin with. Their first byte is one of the row's lead bytes.
+// The code point of a character of so many bytes.
+fn code_of(bytes: &[u8], size: usize) -> u32
+    requires { ⌜ (1 ≤ size) × (size ≤ 4) × (size ≤ length (now bytes)) ⌝ }
+    ensures { λ r. ⌜ r ≡ sixBits (leadBits (size - 1) (getD (now (bytes .entry)) 0 0)) (take (size - 1) (drop 1 (now (bytes .entry)))) ⌝ }
+{
+    let lead = wide(bytes[0]);
+    if size == 1 {
+        return lead;
+    }
+    if size == 2 {
+        return with_six(lead % 32, bytes[1]);
+    }
+    if size == 3 {
+        return with_six(with_six(lead % 16, bytes[1]), bytes[2]);
+    }
+    with_six(with_six(with_six(lead % 8, bytes[1]), bytes[2]), bytes[3])
+}
+
+// The character that the bytes begin with. Their first byte is one of the row's lead bytes.
 fn letter_by(row: Lead, bytes: &[u8]) -> Next
     requires { ⌜ (1 ≤ row .size) × (row .size ≤ 4) × (0 < length (now bytes)) ⌝ }
     ensures { λ r. ⌜ r ≡ letterOf row (getD (now (bytes .entry)) 0 0) (take (row .size - 1) (drop 1 (now (bytes .entry)))) ⌝ }
@@ -184,34 +216,11 @@ fn letter_by(row: Lead, bytes: &[u8]) -> Next
     if bytes.len() < size {
         return Next::Broken;
     }
-    if size == 1 {
-        return letter_of(1, wide(bytes[0]));
-    }
-    if !is_second(row, bytes[1]) {
+    if !may_follow(row, bytes) {
         return Next::Broken;
     }
-    if size == 2 {
-        return letter_of(2, with_six(wide(bytes[0]) % 32, bytes[1]));
-    }
-    if !is_later(bytes[2]) {
-        return Next::Broken;
-    }
-    if size == 3 {
-        return letter_of(
-            3,
-            with_six(with_six(wide(bytes[0]) % 16, bytes[1]), bytes[2]),
-        );
-    }
-    if !is_later(bytes[3]) {
-        return Next::Broken;
-    }
-    letter_of(
-        4,
-        with_six(
-            with_six(with_six(wide(bytes[0]) % 8, bytes[1]), bytes[2]),
-            bytes[3],
-        ),
-    )
+    let code = code_of(bytes, size);
+    Next::Whole(Letter { size, code })
 }
 
 // The character that stands at a place of the text.
@@ -321,6 +330,14 @@ fn fill_marks(text: &[u8], offset: &mut [u32], run: &mut [u16])
     run[i] = 0;
 }
 
+// The run at a place, by its mark and the run behind it.
+fn run_of(mark: u16, behind: u16) -> u16
+    requires { ⌜ behind < 65535 ⌝ }
+    ensures { λ r. ⌜ r ≡ runOf (marked mark) behind ⌝ }
+{
+    if mark == 0 { 0 } else { 1 + behind }
+}
+
 // The first n places of the row, marks, made runs from the right.
 fn count_runs(run: &mut [u16], n: usize)
     requires { ⌜ (n < length (now run)) × (n ≤ characterLimit) × (getD (now run) n 0 ≡ 0) ⌝ }
@@ -329,17 +346,13 @@ fn count_runs(run: &mut [u16], n: usize)
     let mut i = n;
     while 0 < i {
         i -= 1;
-        if run[i] != 0 {
-            run[i] = 1 + run[i + 1];
-        }
+        run[i] = run_of(run[i], run[i + 1]);
     }
 }
 
 // Both rows of the character table, of a text that passed its tests and has n characters.
 pub fn fill(text: &[u8], n: usize, offset: &mut [u32], run: &mut [u16])
-    requires { ⌜ length (now text) ≤ textLimit ⌝ }
-    requires { ⌜ sizes (letters (now text)) ≡ length (now text) ⌝ }
-    requires { ⌜ (n ≡ length (letters (now text))) × (n ≤ characterLimit) ⌝ }
+    requires { ⌜ Sound (now text) n ⌝ }
     requires { ⌜ (n < length (now offset)) × (n < length (now run)) ⌝ }
     ensures { λ _. ⌜ now (offset .exit) ≡ over (offsets (letters (now (text .entry)))) (now (offset .entry)) ⌝ }
     ensures { λ _. ⌜ now (run .exit) ≡ over (runs (letters (now (text .entry)))) (now (run .entry)) ⌝ }

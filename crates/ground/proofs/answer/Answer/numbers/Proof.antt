@@ -1,0 +1,55 @@
+-- In each arm the answer is the arm's case, at which the four numbers compute. Assumes nothing.
+use borrow.Author.Needs.{needs}
+use mir.Syntax.{w32}
+use Rattle.ground.proofs.SignedLaws.{back}
+use Rattle.ground.proofs.answer.Answer.numbers.Statement.{statement}
+use Rattle.ground.proofs.answer.Answer.numbers.Tie as tie
+
+enum-known-self : tie.Need-enum-known-self
+enum-known-self c = search needs
+
+enum-told : tie.Need-enum-told
+enum-told c = search needs
+
+refusal-requires : tie.Need-refusal-requires
+refusal-requires c κs = search needs
+
+enum-known-self-2 : tie.Need-enum-known-self-2
+enum-known-self-2 c = search needs
+
+refusal-requires-2 : tie.Need-refusal-requires-2
+refusal-requires-2 c κs = search needs
+
+enum-told-2 : tie.Need-enum-told-2
+enum-told-2 c = search needs
+
+refusal-requires-3 : tie.Need-refusal-requires-3
+refusal-requires-3 c κs = search needs
+
+returns : tie.Need-returns
+returns c = rw (c .before .self .given .1, back w32 (c .before .self .given .0 .1 .0) (c .known-told .given .1 .0 .1))
+
+returns-2 : tie.Need-returns-2
+returns-2 c = rw (c .before .enum-told .given .1) (c .refusal .ensures)
+
+returns-3 : tie.Need-returns-3
+returns-3 c = rw (c .before .before .self2 .given .1) (c .refusal2 .ensures)
+
+returns-4 : tie.Need-returns-4
+returns-4 c = rw (c .before .enum-told2 .given .1) (c .refusal3 .ensures)
+
+pub numbers-spec : {M : Type 1} → statement M
+numbers-spec =
+    tie.close
+    (tie.spec
+    enum-known-self
+    enum-told
+    refusal-requires
+    enum-known-self-2
+    refusal-requires-2
+    enum-told-2
+    refusal-requires-3
+    returns
+    returns-2
+    returns-3
+    returns-4)

@@ -1,0 +1,45 @@
+-- Two bytes are below 65,536. Assumes nothing.
+use Prim.Native.Nat.{_+_}
+use native.Mathlib.Omega.{arith}
+use borrow.Author.Needs.{needs}
+use Rattle.ground.proofs.entry.two.Statement.{statement}
+use Rattle.ground.proofs.entry.two.Tie as tie
+
+shared-slice-read-wide : tie.Need-shared-slice-read-wide
+shared-slice-read-wide c = search needs
+
+wide-requires : tie.Need-wide-requires
+wide-requires c κs = search needs
+
+add-wide : tie.Need-add-wide
+add-wide c = search needs
+
+shared-slice-read-wide-2 : tie.Need-shared-slice-read-wide-2
+shared-slice-read-wide-2 c = search needs
+
+wide-requires-2 : tie.Need-wide-requires-2
+wide-requires-2 c κs = search needs
+
+mul-result : tie.Need-mul-result
+mul-result c = omega (arith, c .before .shared-slice-known3 .given (c .before .before .before .before .before .args .i + 1))
+
+add-result : tie.Need-add-result
+add-result c =
+    let i = c .before .before .before .before .before .args .i in
+    omega (arith, c .before .shared-slice-known3 .given i, c .before .shared-slice-known3 .given (i + 1))
+
+returns : tie.Need-returns
+returns c = search needs
+
+pub two-spec : {M : Type 1} → statement M
+two-spec =
+    tie.close
+    (tie.spec
+    shared-slice-read-wide
+    wide-requires
+    add-wide
+    shared-slice-read-wide-2
+    wide-requires-2
+    mul-result
+    add-result
+    returns)

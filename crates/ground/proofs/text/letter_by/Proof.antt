@@ -1,0 +1,64 @@
+-- `ground::text::letter_by` meets its contract: too few bytes, or what stands behind the first of them, decide. Assumes nothing.
+use Prim.Native.Nat.{ℕ, _-_, min}
+use mathlib.Core.Path.{_≡_, ap, _∙_, sym}
+use mathlib.Core.Bool.{Bool, true, false, cond}
+use mathlib.Core.List.{List}
+use borrow.Author.Needs.{needs}
+use borrow.Author.Tests.{not-true, not-false}
+use native.Mathlib.Omega.{arith}
+use lib.ListN.{length, take, drop, getD, length-take, length-drop}
+use Rattle.ground.specs.Text.{leadBits, sixBits, letterOf}
+use Rattle.ground.specs.declared.text.Next.the-variants.{Whole, Broken}
+use Rattle.ground.proofs.TextLaws.{too-short, judged}
+use Rattle.ground.proofs.text.letter_by.Statement.{statement}
+use Rattle.ground.proofs.text.letter_by.Tie as tie
+use Rattle.ground.proofs.text.letter_by.Reads as reads
+use Rattle.ground.proofs.text.letter_by.Lts as lts
+use Rattle.ground.proofs.text.code_of.Reads as code-of-reads
+use Rattle.ground.proofs.text.may_follow.Reads as may-follow-reads
+
+abbrev first : tie.Start → ℕ
+first s = getD (s .args .bytes .now) 0 0
+
+abbrev following : tie.Start → List ℕ
+following s = take (s .args .row .size - 1) (drop 1 (s .args .bytes .now))
+
+following-length : (s : tie.Start) → length (following s) ≡ min (s .args .row .size - 1) (length (s .args .bytes .now) - 1)
+following-length s = simp (length-take, length-drop)
+
+-- there are as many bytes as the row says, and what stands behind the first decides
+decided : (c : tie.After-may-follow) (t : Bool) → c .may-follow .result ≡ t
+    → letterOf (c .before .before .before .args .row) (first (c .before .before .before)) (following (c .before .before .before))
+    ≡ cond t
+    (Whole (record { size = c .before .before .before .args .row .size; code = sixBits (leadBits (c .before .before .before .args .row .size - 1) (first (c .before .before .before))) (following (c .before .before .before)) }))
+    Broken
+decided c t e =
+    let s = c .before .before .before in
+    let row = s .args .row in
+    let long : length (following s) ≡ row .size - 1 = omega (arith, following-length s) in
+    judged row (first s) (following s) (omega arith) t (sym (c .may-follow .ensures) ∙ e)
+    ∙ ap (λ (k : ℕ). cond t (Whole (record { size = row .size; code = sixBits (leadBits k (first s)) (following s) })) Broken) long
+
+returns : tie.Need-returns
+returns c =
+    let s = c .before .before in
+    sym (too-short (s .args .row) (first s) (following s) (omega (arith, following-length s)))
+
+may-follow-requires : tie.Need-may-follow-requires
+may-follow-requires c κs = search needs
+
+returns-2 : tie.Need-returns-2
+returns-2 c = sym (decided (c .before) false (not-true (c .before .may-follow .result) (c .if2 .taken)))
+
+code-of-requires : tie.Need-code-of-requires
+code-of-requires c κs = search needs
+
+returns-3 : tie.Need-returns-3
+returns-3 c =
+    let m = c .before .before in
+    ap (λ (x : ℕ). Whole (record { size = m .before .before .before .args .row .size; code = x })) (c .code-of .ensures)
+    ∙ sym (decided m true (not-false (m .may-follow .result) (c .before .if2 .left)))
+
+pub letter-by-spec : {M : Type 1} → statement M
+letter-by-spec =
+    tie.close (tie.spec returns may-follow-requires returns-2 code-of-requires returns-3)

@@ -1,0 +1,81 @@
+//! Calls the library on guarded rows and compares everything it could have changed.
+
+pub mod characters;
+
+use std::fmt::Debug;
+
+/// How many places stand before and behind every lent part.
+pub const GUARD: usize = 4;
+
+/// What a row holds before a call: values that no right answer has, each place its own.
+pub trait Place: Copy + PartialEq + Debug {
+    fn pattern(salt: u64, place: usize) -> Self;
+}
+
+impl Place for u16 {
+    fn pattern(salt: u64, place: usize) -> u16 {
+        0x8000 | (salt as u16).wrapping_add((place as u16).wrapping_mul(0x9E37))
+    }
+}
+
+impl Place for u32 {
+    fn pattern(salt: u64, place: usize) -> u32 {
+        0x8000_0000 | (salt as u32).wrapping_add((place as u32).wrapping_mul(0x9E37_79B9))
+    }
+}
+
+/// A row that is lent as the middle part of a larger buffer.
+#[derive(Default)]
+pub struct Row<T> {
+    whole: Vec<T>,
+    salt: u64,
+}
+
+impl<T: Place> Row<T> {
+    /// Makes a row of so many places, all of them and the guards filled with the pattern.
+    pub fn refill(&mut self, places: usize, salt: u64) {
+        self.salt = salt;
+        self.whole.clear();
+        self.whole
+            .extend((0..places + 2 * GUARD).map(|i| T::pattern(salt, i)));
+    }
+
+    /// The part that is lent.
+    pub fn lent(&self) -> &[T] {
+        &self.whole[GUARD..self.whole.len() - GUARD]
+    }
+
+    /// The part that is lent, to be written.
+    pub fn lent_mut(&mut self) -> &mut [T] {
+        let end = self.whole.len() - GUARD;
+        &mut self.whole[GUARD..end]
+    }
+
+    /// The first difference from the places expected and from the guards, in words.
+    pub fn difference(&self, expected: &[T]) -> Option<String> {
+        let lent = self.lent();
+        if lent != expected {
+            let i = (0..lent.len()).find(|&i| lent[i] != expected[i])?;
+            return Some(format!(
+                "place {i} of {} holds {:?} and not {:?}",
+                lent.len(),
+                lent[i],
+                expected[i]
+            ));
+        }
+        let behind = self.whole.len() - GUARD;
+        let changed = |&i: &usize| self.whole[i] != T::pattern(self.salt, i);
+        let mut guards = (0..GUARD).chain(behind..behind + GUARD);
+        guards.find(changed).map(|i| {
+            let lent = lent.len();
+            format!("guard place {i} changed (the row has {lent} places from {GUARD} on)")
+        })
+    }
+}
+
+/// A text's length and first bytes, for a message.
+pub fn shown(text: &[u8]) -> String {
+    let head: Vec<String> = text.iter().take(24).map(|b| format!("{b:02X}")).collect();
+    let more = if text.len() > 24 { " .." } else { "" };
+    format!("text of {} bytes [{}{more}]", text.len(), head.join(" "))
+}

@@ -1,0 +1,10 @@
+//! Holds the C library against plain models of document 01.
+//!
+//! `library`, `model` and `check` have one module for each public operation.
+
+pub mod addresses;
+pub mod check;
+pub mod library;
+pub mod model;
+pub mod random;
+pub mod texts;
