@@ -140,9 +140,10 @@ fn within(low: u8, high: u8, byte: u8) -> bool
 fn row_of(byte: u8) -> LeadFound
     ensures { λ r. ⌜ r ≡ rowOf leads byte ⌝ }
 {
+    let rows = LEADS;
     let mut i = 0;
     while i < 9 {
-        let row = LEADS[i];
+        let row = rows[i];
         if within(row.low, row.high, byte) {
             return LeadFound::Row(row);
         }

@@ -20,10 +20,10 @@ abbrev none : Lead
 none = lead 0 0 0 0 0
 
 abbrev Inv-loop : tie.InvT-loop
-Inv-loop byte i₀ i = (i ≤ 9) × (rowOf (drop i leads) byte ≡ rowOf leads byte)
+Inv-loop byte rows i₀ i = (i ≤ 9) × (rowOf (drop i leads) byte ≡ rowOf leads byte)
 
 abbrev μ-loop : tie.MeasureT-loop
-μ-loop byte i₀ i = 9 - i
+μ-loop byte rows i₀ i = 9 - i
 
 loop-holds : tie.Need-loop-holds Inv-loop μ-loop
 loop-holds c = (omega arith, refl)

@@ -1,0 +1,12 @@
+-- Each promise leaves one answer and one content of every row: two results that meet it are equal. Assumes nothing.
+use Prim.Native.Nat.{ℕ}
+use mathlib.Core.Path.{_≡_, _∙_, sym}
+use mathlib.Core.List.{List}
+use Rattle.ground.specs.declared.answer.Numbers.{Numbers}
+use Rattle.jumelavorp.specs.Promise.{Characters}
+
+pub characters-unique : (text offset run : List ℕ) (a b : Numbers) (offsetA runA offsetB runB : List ℕ)
+    → Characters text offset run a offsetA runA → Characters text offset run b offsetB runB
+    → (a ≡ b) × (offsetA ≡ offsetB) × (runA ≡ runB)
+characters-unique text offset run a b offsetA runA offsetB runB p q =
+    (p .answers ∙ sym (q .answers), p .offsets ∙ sym (q .offsets), p .runs ∙ sym (q .runs))

@@ -1,0 +1,13 @@
+-- What a caller of the C library may lean on: the four numbers and every row after the call, from the text and the rows before it.
+use Prim.Native.Nat.{ℕ}
+use mathlib.Core.Path.{_≡_}
+use mathlib.Core.List.{List}
+use Rattle.ground.specs.Answer.{numbersOf}
+use Rattle.ground.specs.Characters.{characters}
+use Rattle.ground.specs.declared.answer.Numbers.{Numbers}
+
+-- The character table alone.
+pub record Characters (text offset run : List ℕ) (answer : Numbers) (offsetAfter runAfter : List ℕ) : Type 0 where
+  pub answers : answer ≡ numbersOf (characters text offset run .answer)
+  pub offsets : offsetAfter ≡ characters text offset run .offset
+  pub runs : runAfter ≡ characters text offset run .run
