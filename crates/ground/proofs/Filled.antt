@@ -10,7 +10,8 @@ use Rattle.ground.specs.Text.{letterAt, letters, sizes, offsetsFrom, off
 use Rattle.ground.specs.Filling.{markOf, marks}
 use Rattle.ground.specs.declared.text.Letter.{Letter}
 use Rattle.ground.specs.declared.text.Next.the-variants.{Whole}
-use Rattle.ground.proofs.TextLaws.{letter-ends, letters-next, letters-end}
+use Rattle.ground.proofs.LetterLaws.{letter-ends}
+use Rattle.ground.proofs.TextLaws.{letters-next, letters-end}
 
 -- i characters are done, up to the byte `at`: with what the characters left write, each row is what all of them write
 pub record Filled (text offset₀ run₀ offset run : List ℕ) (at i : ℕ) : Type 0 where

@@ -2,6 +2,8 @@ pub mod SignedLaws
 pub mod EntryLaws
 pub mod MatrixLaws
 pub mod ChargeLaws
+pub mod LeadLaws
+pub mod LetterLaws
 pub mod TextLaws
 pub mod RowLaws
 pub mod CharacterLaws

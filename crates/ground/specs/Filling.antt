@@ -1,13 +1,15 @@
 -- What the inner functions of the character table leave: no part of document 01, but of how the rows come about.
-use Prim.Native.Nat.{ℕ, _≤_}
+use Prim.Native.Nat.{ℕ, _+_, _-_, _≤_}
 use mathlib.Core.Path.{_≡_}
 use mathlib.Core.Bool.{Bool, cond, not}
 use mathlib.Core.List.{List, [], _∷_}
-use lib.ListN.{length}
-use lib.Dec.{eqb}
+use lib.ListN.{length, take, drop, getD}
+use lib.Dec.{leb, eqb}
 use Rattle.ground.specs.Limits.{textLimit, characterLimit}
-use Rattle.ground.specs.Text.{letters, sizes, isKanji, runAhead}
+use Rattle.ground.specs.Text.{within, leadBits, sixBits, letters, sizes, isKanji, runAhead}
 use Rattle.ground.specs.declared.text.Letter.{Letter}
+use Rattle.ground.specs.declared.text.Next.{Next}
+use Rattle.ground.specs.declared.text.Next.the-variants.{Whole, Broken}
 
 -- A text that passed its tests: within both limits, well formed, and of n characters.
 pub record Sound (text : List ℕ) (n : ℕ) : Type 0 where
@@ -15,6 +17,28 @@ pub record Sound (text : List ℕ) (n : ℕ) : Type 0 where
   pub whole : sizes (letters text) ≡ length text
   pub count : n ≡ length (letters text)
   pub few : n ≤ characterLimit
+
+-- The length of a character, and 0 where none stands.
+abbrev pub sizeOf : Next → ℕ
+sizeOf Broken = 0
+sizeOf (Whole letter) = letter .size
+
+-- 1 from `low` on, and 0 below.
+abbrev pub from : ℕ → ℕ → ℕ
+from low x = cond (leb low x) 1 0
+
+-- The length of a character by its lead byte, once it is known to be well formed: one more from 80, from E0 and from F0 on.
+abbrev pub sizeByLead : ℕ → ℕ
+sizeByLead lead = 1 + from 0x80 lead + from 0xe0 lead + from 0xf0 lead
+
+-- The character that the first `size` bytes make, well formed or not.
+abbrev pub letterOfSize : List ℕ → ℕ → Letter
+letterOfSize bytes size =
+    record { size = size; code = sixBits (leadBits (size - 1) (getD bytes 0 0)) (take (size - 1) (drop 1 bytes)) }
+
+-- 1 in a block of code points, and 0 outside.
+abbrev pub inBlock : ℕ → ℕ → ℕ → ℕ
+inBlock low high code = cond (within low high code) 1 0
 
 -- 1 for a kanji and 0 for another character.
 abbrev pub markOf : ℕ → ℕ

@@ -2,7 +2,7 @@
 use crate::answer::Answer;
 ghost use mathlib.Core.Path.{_≡_};
 ghost use mathlib.Core.Bool.{true};
-ghost use Prim.Native.Nat.{_+_, _-_, _*_, _%_, _<_, _≤_};
+ghost use Prim.Native.Nat.{_+_, _-_, _*_, _%_, _^_, _<_, _≤_};
 ghost use lib.ListN.{length, take, drop, getD};
 ghost use Rattle.ground.specs.Limits.{textLimit, characterLimit};
 ghost use Rattle.ground.specs.Text.{
@@ -22,7 +22,7 @@ ghost use Rattle.ground.specs.Text.{
   isKanji,
 };
 ghost use Rattle.ground.specs.Characters.{checked, characters, table, over};
-ghost use Rattle.ground.specs.Filling.{Sound, markOf, marked, marks, counted};
+ghost use Rattle.ground.specs.Filling.{Sound, sizeOf, from, sizeByLead, letterOfSize, inBlock, markOf, marked, marks, counted};
 
 // The most bytes and the most characters of a text.
 pub const TEXT_LIMIT: usize = 16_384;
@@ -152,20 +152,6 @@ fn row_of(byte: u8) -> LeadFound
     LeadFound::NoRow
 }
 
-fn wide(x: u8) -> u32
-    ensures { λ r. ⌜ r ≡ x ⌝ }
-{
-    x as u32
-}
-
-// The code so far with the six bits of one more byte.
-fn with_six(code: u32, byte: u8) -> u32
-    requires { ⌜ code < 65536 ⌝ }
-    ensures { λ r. ⌜ r ≡ code * 64 + byte % 64 ⌝ }
-{
-    code * 64 + wide(byte) % 64
-}
-
 // Whether what stands behind the lead byte may follow it.
 fn may_follow(row: Lead, bytes: &[u8]) -> bool
     requires { ⌜ (1 ≤ row .size) × (row .size ≤ 4) × (row .size ≤ length (now bytes)) ⌝ }
@@ -190,48 +176,29 @@ fn may_follow(row: Lead, bytes: &[u8]) -> bool
     within(LATER_LOW, LATER_HIGH, bytes[3])
 }
 
-// The code point of a character of so many bytes.
-fn code_of(bytes: &[u8], size: usize) -> u32
-    requires { ⌜ (1 ≤ size) × (size ≤ 4) × (size ≤ length (now bytes)) ⌝ }
-    ensures { λ r. ⌜ r ≡ sixBits (leadBits (size - 1) (getD (now (bytes .entry)) 0 0)) (take (size - 1) (drop 1 (now (bytes .entry)))) ⌝ }
-{
-    let lead = wide(bytes[0]);
-    if size == 1 {
-        return lead;
-    }
-    if size == 2 {
-        return with_six(lead % 32, bytes[1]);
-    }
-    if size == 3 {
-        return with_six(with_six(lead % 16, bytes[1]), bytes[2]);
-    }
-    with_six(with_six(with_six(lead % 8, bytes[1]), bytes[2]), bytes[3])
-}
-
-// The character that the bytes begin with. Their first byte is one of the row's lead bytes.
-fn letter_by(row: Lead, bytes: &[u8]) -> Next
+// The length of the character that the bytes begin with, or 0. Their first byte is one of the row's lead bytes.
+fn size_by(row: Lead, bytes: &[u8]) -> usize
     requires { ⌜ (1 ≤ row .size) × (row .size ≤ 4) × (0 < length (now bytes)) ⌝ }
-    ensures { λ r. ⌜ r ≡ letterOf row (getD (now (bytes .entry)) 0 0) (take (row .size - 1) (drop 1 (now (bytes .entry)))) ⌝ }
+    ensures { λ r. ⌜ r ≡ sizeOf (letterOf row (getD (now (bytes .entry)) 0 0) (take (row .size - 1) (drop 1 (now (bytes .entry))))) ⌝ }
 {
     let size = row.size;
     if bytes.len() < size {
-        return Next::Broken;
+        return 0;
     }
     if !may_follow(row, bytes) {
-        return Next::Broken;
+        return 0;
     }
-    let code = code_of(bytes, size);
-    Next::Whole(Letter { size, code })
+    size
 }
 
-// The character that stands at a place of the text.
-fn letter_at(text: &[u8], at: usize) -> Next
+// The length of the character that stands at a place of the text, or 0.
+fn size_at(text: &[u8], at: usize) -> usize
     requires { ⌜ at < length (now text) ⌝ }
-    ensures { λ r. ⌜ r ≡ letterAt (drop at (now (text .entry))) ⌝ }
+    ensures { λ r. ⌜ r ≡ sizeOf (letterAt (drop at (now (text .entry)))) ⌝ }
 {
     match row_of(text[at]) {
-        LeadFound::Row(row) => letter_by(row, &text[at..]),
-        LeadFound::NoRow => Next::Broken,
+        LeadFound::Row(row) => size_by(row, &text[at..]),
+        LeadFound::NoRow => 0,
     }
 }
 
@@ -247,13 +214,14 @@ fn measure(text: &[u8]) -> Measured
     let mut at = 0;
     let mut n = 0;
     while at < text.len() {
-        let Next::Whole(letter) = letter_at(text, at) else {
+        let size = size_at(text, at);
+        if size == 0 {
             return Measured {
                 characters: n,
                 bytes: at,
             };
-        };
-        at += letter.size;
+        }
+        at += size;
         n += 1;
     }
     Measured {
@@ -289,23 +257,95 @@ pub fn check(text: &[u8]) -> Checked
     }
 }
 
+fn wide(x: u8) -> u32
+    ensures { λ r. ⌜ r ≡ x ⌝ }
+{
+    x as u32
+}
+
+// The code so far with the six bits of one more byte.
+fn with_six(code: u32, byte: u8) -> u32
+    requires { ⌜ code < 65536 ⌝ }
+    ensures { λ r. ⌜ r ≡ code * 64 + byte % 64 ⌝ }
+{
+    code * 64 + wide(byte) % 64
+}
+
+// The code point of a character of so many bytes.
+fn code_of(bytes: &[u8], size: usize) -> u32
+    requires { ⌜ (1 ≤ size) × (size ≤ 4) × (size ≤ length (now bytes)) ⌝ }
+    ensures { λ r. ⌜ r ≡ letterOfSize (now (bytes .entry)) size .code ⌝ }
+{
+    let lead = wide(bytes[0]);
+    if size == 1 {
+        return lead;
+    }
+    if size == 2 {
+        return with_six(lead % 32, bytes[1]);
+    }
+    if size == 3 {
+        return with_six(with_six(lead % 16, bytes[1]), bytes[2]);
+    }
+    with_six(with_six(with_six(lead % 8, bytes[1]), bytes[2]), bytes[3])
+}
+
+// The character of so many bytes that the bytes begin with.
+fn letter_of(bytes: &[u8], size: usize) -> Letter
+    requires { ⌜ (1 ≤ size) × (size ≤ 4) × (size ≤ length (now bytes)) ⌝ }
+    ensures { λ r. ⌜ r ≡ letterOfSize (now (bytes .entry)) size ⌝ }
+{
+    Letter {
+        size,
+        code: code_of(bytes, size),
+    }
+}
+
+// The character that well-formed bytes begin with, by its lead byte: nothing is tested again.
+fn known_letter(bytes: &[u8]) -> Letter
+    requires { ⌜ (0 < length (now bytes)) × (sizeByLead (getD (now bytes) 0 0) ≤ length (now bytes)) ⌝ }
+    ensures { λ r. ⌜ r ≡ letterOfSize (now (bytes .entry)) (sizeByLead (getD (now (bytes .entry)) 0 0)) ⌝ }
+{
+    let lead = bytes[0];
+    if lead < 0x80 {
+        return letter_of(bytes, 1);
+    }
+    if lead < 0xe0 {
+        return letter_of(bytes, 2);
+    }
+    if lead < 0xf0 {
+        return letter_of(bytes, 3);
+    }
+    letter_of(bytes, 4)
+}
+
+// The character at a place where one is known to stand.
+fn letter_at(text: &[u8], at: usize) -> Letter
+    requires { ⌜ (at < length (now text)) × (0 < sizeOf (letterAt (drop at (now text)))) ⌝ }
+    ensures { λ r. ⌜ letterAt (drop at (now (text .entry))) ≡ Next.Whole r ⌝ }
+{
+    known_letter(&text[at..])
+}
+
+// 1 from `low` on.
+fn reached(low: u32, x: u32) -> u16
+    ensures { λ r. ⌜ (r ≡ from low x) × (r ≤ 1) ⌝ }
+{
+    if low <= x { 1 } else { 0 }
+}
+
+// 1 from `low` to `high`, without a jump.
+fn in_block(low: u32, high: u32, code: u32) -> u16
+    requires { ⌜ (low ≤ high) × (high < 2 ^ 31) ⌝ }
+    ensures { λ r. ⌜ (r ≡ inBlock low high code) × (r ≤ 1) ⌝ }
+{
+    reached(low, code) - reached(high + 1, code)
+}
+
 // 1 for a kanji and 0 for another character.
 fn mark_of(code: u32) -> u16
     ensures { λ r. ⌜ r ≡ markOf code ⌝ }
 {
-    if code < 0x3400 {
-        return 0;
-    }
-    if code <= 0x4dbf {
-        return 1;
-    }
-    if code < 0x4e00 {
-        return 0;
-    }
-    if code <= 0x9faf {
-        return 1;
-    }
-    0
+    in_block(0x4e00, 0x9faf, code) + in_block(0x3400, 0x4dbf, code)
 }
 
 // The offset row, and in the run row a mark for each character.
@@ -319,9 +359,7 @@ fn fill_marks(text: &[u8], offset: &mut [u32], run: &mut [u16])
     let mut at = 0;
     let mut i = 0;
     while at < text.len() {
-        let Next::Whole(letter) = letter_at(text, at) else {
-            return;
-        };
+        let letter = letter_at(text, at);
         offset[i] = at as u32;
         run[i] = mark_of(letter.code);
         at += letter.size;

@@ -4,7 +4,7 @@ use mathlib.Core.Path.{_≡_, ap, _∙_}
 use borrow.Author.Needs.{needs}
 use native.Mathlib.Omega.{arith}
 use lib.ListN.{take, drop, getD}
-use Rattle.ground.proofs.TextLaws.{six-next}
+use Rattle.ground.proofs.LetterLaws.{six-next}
 use Rattle.ground.specs.Text.{sixBits, leadBits}
 use Rattle.ground.proofs.text.code_of.Statement.{statement}
 use Rattle.ground.proofs.text.code_of.Tie as tie

@@ -8,7 +8,7 @@ use borrow.Author.Tests.{not-true, not-false}
 use native.Mathlib.Omega.{arith}
 use lib.ListN.{take, drop}
 use Rattle.ground.specs.Text.{mayFollow, allLater}
-use Rattle.ground.proofs.TextLaws.{follow-second, follow-later}
+use Rattle.ground.proofs.LetterLaws.{follow-second, follow-later}
 use Rattle.ground.proofs.text.may_follow.Statement.{statement}
 use Rattle.ground.proofs.text.may_follow.Tie as tie
 use Rattle.ground.proofs.text.may_follow.Reads as reads

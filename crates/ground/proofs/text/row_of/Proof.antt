@@ -10,7 +10,7 @@ use lib.ListN.{drop, getD, drop-of-length-le}
 use Rattle.ground.specs.Text.{lead, leads, rowOf}
 use Rattle.ground.specs.declared.text.Lead.{Lead}
 use Rattle.ground.specs.declared.text.LeadFound.the-variants.{Row}
-use Rattle.ground.proofs.TextLaws.{row-here}
+use Rattle.ground.proofs.LeadLaws.{row-here}
 use Rattle.ground.proofs.text.row_of.Statement.{statement}
 use Rattle.ground.proofs.text.row_of.Tie as tie
 use Rattle.ground.proofs.text.row_of.Reads as reads

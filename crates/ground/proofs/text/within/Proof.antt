@@ -2,7 +2,7 @@
 use mathlib.Core.Path.{sym}
 use mathlib.Core.Bool.{and-true}
 use borrow.Author.Tests.{le-leb}
-use Rattle.ground.proofs.TextLaws.{above-range}
+use Rattle.ground.proofs.LeadLaws.{above-range}
 use Rattle.ground.proofs.text.within.Statement.{statement}
 use Rattle.ground.proofs.text.within.Tie as tie
 

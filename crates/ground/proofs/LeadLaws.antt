@@ -1,0 +1,142 @@
+-- The table of lead bytes: its rule is one test that antt computes over all nine rows, and laws that turn it into what holds of the row
+-- that is found. Assumes nothing.
+use Prim.Native.Nat.{ℕ, suc, _+_, _≤_, _<_}
+use mathlib.Core.Path.{_≡_, refl, ap, _∙_, sym}
+use mathlib.Core.Bool.{Bool, true, false, cond, _&&_, _||_, and-false}
+use mathlib.Core.List.{List, [], _∷_}
+use native.Mathlib.Omega.{arith}
+use lib.Dec.{leb, eqb}
+use lib.ListN.{length, drop, getD}
+use lib.Seq.{drop-cons}
+use borrow.Author.Tests.{leb-true, leb-false, eqb-true, le-leb, lt-leb}
+use Rattle.ground.specs.Text.{leads, rowOf, isLead, within}
+use Rattle.ground.specs.Filling.{from, sizeByLead, inBlock}
+use Rattle.ground.specs.declared.text.Lead.{Lead}
+use Rattle.ground.specs.declared.text.LeadFound.{LeadFound}
+use Rattle.ground.specs.declared.text.LeadFound.the-variants.{Row, NoRow}
+
+-- ---- ranges
+
+pub in-range : (low high x : ℕ) → low ≤ x → x ≤ high → within low high x ≡ true
+in-range low high x l h = rw (le-leb low x l, le-leb x high h)
+
+pub below-range : (low high x : ℕ) → x < low → within low high x ≡ false
+below-range low high x l = rw (lt-leb low x l)
+
+pub above-range : (low high x : ℕ) → high < x → within low high x ≡ false
+above-range low high x h = rw (lt-leb x high h, and-false)
+
+pub from-below : (low x : ℕ) → x < low → from low x ≡ 0
+from-below low x h = rw (lt-leb low x h)
+
+pub from-above : (low x : ℕ) → low ≤ x → from low x ≡ 1
+from-above low x h = rw (le-leb low x h)
+
+from-mono : (low a b : ℕ) → a ≤ b → from low a ≤ from low b
+from-mono low a b h = go (leb low a) refl (leb low b) refl
+  where
+    go : (s : Bool) → leb low a ≡ s → (t : Bool) → leb low b ≡ t → cond s 1 0 ≤ cond t 1 0
+    go false e t f = omega arith
+    go true e true f = omega arith
+    go true e false f = absurd (omega (arith, leb-true low a e, leb-false low b f))
+
+-- a block is what is reached from its first on, less what is reached behind its last
+pub block : (low high x : ℕ) → low ≤ high → from low x ≡ inBlock low high x + from (high + 1) x
+block low high x h = go (leb low x) refl (leb x high) refl (leb (high + 1) x) refl
+  where
+    go : (s : Bool) → leb low x ≡ s → (t : Bool) → leb x high ≡ t → (u : Bool) → leb (high + 1) x ≡ u → cond s 1 0 ≡ cond (s && t) 1 0 + cond u 1 0
+    go true e true f false g = omega arith
+    go true e false f true g = omega arith
+    go false e t f false g = omega arith
+    go true e true f true g = absurd (omega (arith, leb-true x high f, leb-true (high + 1) x g))
+    go true e false f false g = absurd (omega (arith, leb-false x high f, leb-false (high + 1) x g))
+    go false e t f true g = absurd (omega (arith, leb-false low x e, leb-true (high + 1) x g))
+
+-- two blocks apart: a number lies in one of them, the other, or none
+pub blocks : (low high low′ high′ x : ℕ) → high′ < low → inBlock low high x + inBlock low′ high′ x ≡ cond (within low high x || within low′ high′ x) 1 0
+blocks low high low′ high′ x apart = go (leb low x) refl (leb x high) (leb low′ x) (leb x high′) refl
+  where
+    go : (s : Bool) → leb low x ≡ s → (t : Bool) → (u : Bool) → (v : Bool) → leb x high′ ≡ v → cond (s && t) 1 0 + cond (u && v) 1 0 ≡ cond (s && t || u && v) 1 0
+    go true e true true true f = absurd (omega (arith, leb-true low x e, leb-true x high′ f))
+    go true e true true false f = omega arith
+    go true e true false v f = omega arith
+    go true e false true true f = omega arith
+    go true e false true false f = omega arith
+    go true e false false v f = omega arith
+    go false e t true true f = omega arith
+    go false e t true false f = omega arith
+    go false e t false v f = omega arith
+
+-- ---- the table of lead bytes
+
+-- a test passes at every row
+abbrev every : (Lead → Bool) → List Lead → Bool
+every test [] = true
+every test (row ∷ rows) = test row && every test rows
+
+both : (a b : Bool) → (a && b) ≡ true → (a ≡ true) × (b ≡ true)
+both true b e = (refl, e)
+both false b e = absurd (mathlib.Core.Bool.false≢true e)
+
+-- what a test says of every row it says of the row that is found
+pub found : (test : Lead → Bool) (rows : List Lead) → every test rows ≡ true → (byte : ℕ) (row : Lead) → rowOf rows byte ≡ Row row → test row ≡ true
+unfolding rowOf
+found test [] e byte row f = let z : _≡_ {A = ℕ} 0 1 = cc in absurd (omega arith)
+found test (first ∷ rows) e byte row f = go (isLead first byte) f (found test rows (both (test first) (every test rows) e .1) byte row)
+  where
+    go : (t : Bool) → cond t (Row first) (rowOf rows byte) ≡ Row row → (rowOf rows byte ≡ Row row → test row ≡ true) → test row ≡ true
+    go true f more = let q : first ≡ row = cc in rw (← q) (both (test first) (every test rows) e .0)
+    go false f more = more f
+
+-- the rows from i on find the i-th where it has the byte, and otherwise what those behind it find
+pub row-here : (rows : List Lead) (i : ℕ) (none : Lead) (byte : ℕ) → i < length rows → (t : Bool) → isLead (getD rows i none) byte ≡ t
+    → rowOf (drop i rows) byte ≡ cond t (Row (getD rows i none)) (rowOf (drop (suc i) rows) byte)
+unfolding rowOf
+row-here rows i none byte h t e =
+    ap (λ (l : List Lead). rowOf l byte) (drop-cons rows i none h)
+    ∙ ap (λ (b : Bool). cond b (Row (getD rows i none)) (rowOf (drop (suc i) rows) byte)) e
+
+-- the row that is found has the byte
+pub row-lead : (rows : List Lead) (byte : ℕ) (row : Lead) → rowOf rows byte ≡ Row row → isLead row byte ≡ true
+unfolding rowOf
+row-lead [] byte row f = let z : _≡_ {A = ℕ} 0 1 = cc in absurd (omega arith)
+row-lead (first ∷ rows) byte row f = go (isLead first byte) refl f (row-lead rows byte row)
+  where
+    go : (t : Bool) → isLead first byte ≡ t → cond t (Row first) (rowOf rows byte) ≡ Row row → (rowOf rows byte ≡ Row row → isLead row byte ≡ true)
+        → isLead row byte ≡ true
+    go true e f more = let q : first ≡ row = cc in rw (← q) e
+    go false e f more = more f
+
+-- The table's rule: a row's length is from 1 to 4, and its first and its last lead byte tell it.
+rule : Lead → Bool
+rule row = within 1 4 (row .size) && (eqb (sizeByLead (row .low)) (row .size) && eqb (sizeByLead (row .high)) (row .size))
+
+holds : (byte : ℕ) (row : Lead) → rowOf leads byte ≡ Row row → rule row ≡ true
+unfolding leads rule
+holds byte row f = found rule leads refl byte row f
+
+pub row-size : (byte : ℕ) (row : Lead) → rowOf leads byte ≡ Row row → (1 ≤ row .size) × (row .size ≤ 4)
+unfolding rule
+row-size byte row f =
+    let r = both (within 1 4 (row .size)) (eqb (sizeByLead (row .low)) (row .size) && eqb (sizeByLead (row .high)) (row .size)) (holds byte row f) in
+    let w = both (leb 1 (row .size)) (leb (row .size) 4) (r .0) in
+    (leb-true 1 (row .size) (w .0), leb-true (row .size) 4 (w .1))
+
+-- a higher lead byte tells no shorter length
+size-mono : (a b : ℕ) → a ≤ b → sizeByLead a ≤ sizeByLead b
+size-mono a b h = omega (arith, from-mono 0x80 a b h, from-mono 0xe0 a b h, from-mono 0xf0 a b h)
+
+-- so each lead byte of a row tells the row's length
+pub lead-size : (byte : ℕ) (row : Lead) → rowOf leads byte ≡ Row row → sizeByLead byte ≡ row .size
+unfolding rule
+lead-size byte row f =
+    let r = both (within 1 4 (row .size)) (eqb (sizeByLead (row .low)) (row .size) && eqb (sizeByLead (row .high)) (row .size)) (holds byte row f) in
+    let ends = both (eqb (sizeByLead (row .low)) (row .size)) (eqb (sizeByLead (row .high)) (row .size)) (r .1) in
+    let w = both (leb (row .low) byte) (leb byte (row .high)) (row-lead leads byte row f) in
+    omega (
+      arith,
+      eqb-true (sizeByLead (row .low)) (row .size) (ends .0),
+      eqb-true (sizeByLead (row .high)) (row .size) (ends .1),
+      size-mono (row .low) byte (leb-true (row .low) byte (w .0)),
+      size-mono byte (row .high) (leb-true byte (row .high) (w .1)),
+    )

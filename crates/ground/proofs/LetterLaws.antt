@@ -1,0 +1,128 @@
+-- One character: what decides it, and how its bits and the bytes behind its lead byte are told one by one. Assumes nothing.
+use Prim.Native.Nat.{ℕ, zero, suc, _+_, _-_, _*_, _%_, _≤_, _<_}
+use mathlib.Core.Path.{_≡_, refl, ap, _∙_, sym}
+use mathlib.Core.Bool.{Bool, true, false, cond, _&&_}
+use mathlib.Core.List.{List, [], _∷_}
+use native.Mathlib.Omega.{arith}
+use native.Mathlib.Nat.{add-zero}
+use lib.Dec.{eqb}
+use lib.ListN.{length, take, drop, getD, length-take, length-drop}
+use lib.Seq.{drop-cons, take-all, getD-drop}
+use borrow.Author.Tests.{eqb-true, eq-eqb, ne-eqb}
+use Rattle.ground.specs.Text.{leads, rowOf, isSecond, isLater, allLater, mayFollow, leadBits, sixBits, letterOf, letterBy, letterAt}
+use Rattle.ground.specs.Filling.{sizeOf}
+use Rattle.ground.specs.declared.text.Lead.{Lead}
+use Rattle.ground.specs.declared.text.LeadFound.{LeadFound}
+use Rattle.ground.specs.declared.text.LeadFound.the-variants.{Row, NoRow}
+use Rattle.ground.specs.declared.text.Letter.{Letter}
+use Rattle.ground.specs.declared.text.Next.{Next}
+use Rattle.ground.specs.declared.text.Next.the-variants.{Whole, Broken}
+use Rattle.ground.proofs.LeadLaws.{row-size}
+
+-- no character is made of too few bytes
+pub too-short : (row : Lead) (byte : ℕ) (following : List ℕ) → suc (length following) < row .size → letterOf row byte following ≡ Broken
+too-short row byte following h = rw (ne-eqb (suc (length following)) (row .size) (λ e. omega arith))
+
+-- with as many bytes as the row says, what follows the lead byte decides
+pub judged : (row : Lead) (byte : ℕ) (following : List ℕ) → suc (length following) ≡ row .size → (t : Bool) → mayFollow row following ≡ t
+    → letterOf row byte following
+    ≡ cond t (Whole (record { size = row .size; code = sixBits (leadBits (length following) byte) following })) Broken
+judged row byte following e t m = rw (eq-eqb (suc (length following)) (row .size) e, m)
+
+-- the row of the first byte decides
+pub letter-row : (bytes : List ℕ) (found : LeadFound) → 0 < length bytes → rowOf leads (getD bytes 0 0) ≡ found → letterAt bytes ≡ letterBy found (getD bytes 0 0) (drop 1 bytes)
+unfolding letterAt
+letter-row [] found h e = absurd (omega arith)
+letter-row (byte ∷ rest) found h e = ap (λ (f : LeadFound). letterBy f byte rest) e
+
+-- What is known of a character: the row of its lead byte gives its length, and its code point is made of as many bytes.
+pub record Parts (bytes : List ℕ) (letter : Letter) : Type 0 where
+  pub row : Lead
+  pub lead : rowOf leads (getD bytes 0 0) ≡ Row row
+  pub size : letter .size ≡ row .size
+  pub code : letter .code ≡ sixBits (leadBits (letter .size - 1) (getD bytes 0 0)) (take (letter .size - 1) (drop 1 bytes))
+  pub enough : letter .size ≤ length bytes
+
+pub letter-parts : (bytes : List ℕ) (letter : Letter) → letterAt bytes ≡ Whole letter → Parts bytes letter
+unfolding letterAt
+letter-parts [] letter e = let z : _≡_ {A = ℕ} 0 1 = cc in absurd (omega arith)
+letter-parts (byte ∷ rest) letter e = go (rowOf leads byte) refl e
+  where
+    made : (row : Lead) → rowOf leads byte ≡ Row row → (following : List ℕ) → following ≡ take (row .size - 1) rest → (t : Bool) → eqb (suc (length following)) (row .size) ≡ t
+        → (m : Bool) → cond (t && m) (Whole (record { size = row .size; code = sixBits (leadBits (length following) byte) following })) Broken ≡ Whole letter
+        → Parts (byte ∷ rest) letter
+    made row f following l true t true w =
+        let long : suc (length following) ≡ row .size = eqb-true (suc (length following)) (row .size) t in
+        let size : letter .size ≡ row .size = cc in
+        let code : letter .code ≡ sixBits (leadBits (length following) byte) following = cc in
+        let k : length following ≡ letter .size - 1 = omega arith in
+        let same : following ≡ take (letter .size - 1) rest = l ∙ ap (λ (n : ℕ). take (n - 1) rest) (sym size) in
+        record {
+          row = row;
+          lead = f;
+          size = size;
+          code = code ∙ ap (λ (n : ℕ). sixBits (leadBits n byte) following) k ∙ ap (λ (bs : List ℕ). sixBits (leadBits (letter .size - 1) byte) bs) same;
+          enough = omega (arith, ap length l, length-take (row .size - 1) rest);
+        }
+    made row f following l true t false w = let z : _≡_ {A = ℕ} 0 1 = cc in absurd (omega arith)
+    made row f following l false t m w = let z : _≡_ {A = ℕ} 0 1 = cc in absurd (omega arith)
+
+    go : (r : LeadFound) → rowOf leads byte ≡ r → letterBy r byte rest ≡ Whole letter → Parts (byte ∷ rest) letter
+    go NoRow f w = let z : _≡_ {A = ℕ} 0 1 = cc in absurd (omega arith)
+    go (Row row) f w =
+        made row f (take (row .size - 1) rest) refl (eqb (suc (length (take (row .size - 1) rest))) (row .size)) refl (mayFollow row (take (row .size - 1) rest)) w
+
+-- a character has at least one byte, and no more than there are
+pub letter-size : (bytes : List ℕ) (letter : Letter) → letterAt bytes ≡ Whole letter → (1 ≤ letter .size) × (letter .size ≤ length bytes)
+letter-size bytes letter e =
+    let p = letter-parts bytes letter e in
+    (omega (arith, row-size (getD bytes 0 0) (p .row) (p .lead)), p .enough)
+
+-- a length above 0 is a character's
+pub sized : (bytes : List ℕ) (n : ℕ) → n ≡ sizeOf (letterAt bytes) → 0 < n → (letter : Letter) × (letterAt bytes ≡ Whole letter) × (letter .size ≡ n)
+sized bytes n q h = go (letterAt bytes) refl q
+  where
+    go : (next : Next) → letterAt bytes ≡ next → n ≡ sizeOf next → (letter : Letter) × (letterAt bytes ≡ Whole letter) × (letter .size ≡ n)
+    go Broken e q = absurd (omega arith)
+    go (Whole letter) e q = (letter, e, sym q)
+
+-- a length of 0 is none's
+pub unsized : (bytes : List ℕ) → sizeOf (letterAt bytes) ≡ 0 → letterAt bytes ≡ Broken
+unsized bytes h = go (letterAt bytes) refl h
+  where
+    go : (next : Next) → letterAt bytes ≡ next → sizeOf next ≡ 0 → next ≡ Broken
+    go Broken e h = refl
+    go (Whole letter) e h = absurd (omega (arith, letter-size bytes letter e))
+
+-- a part from a place on to the end, its first byte, and one byte at a time
+pub part-rest : (text : List ℕ) (at : ℕ) → take (length text - at) (drop at text) ≡ drop at text
+part-rest text at = take-all (length text - at) (drop at text) (omega (arith, length-drop at text))
+
+pub part-first : (text : List ℕ) (at : ℕ) → getD (drop at text) 0 0 ≡ getD text at 0
+part-first text at = getD-drop at text 0 0 ∙ ap (λ (k : ℕ). getD text k 0) (add-zero at)
+
+pub take-drop : (k i : ℕ) (bytes : List ℕ) → i < length bytes → take (suc k) (drop i bytes) ≡ getD bytes i 0 ∷ take k (drop (suc i) bytes)
+take-drop k i bytes h = ap (λ (l : List ℕ). take (suc k) l) (drop-cons bytes i 0 h)
+
+-- what may follow a lead byte, one byte at a time
+pub follow-second : (row : Lead) (bytes : List ℕ) (k : ℕ) → 1 < length bytes
+    → mayFollow row (take (suc k) (drop 1 bytes)) ≡ (isSecond row (getD bytes 1 0) && allLater (take k (drop 2 bytes)))
+follow-second row bytes k h = ap (λ (l : List ℕ). mayFollow row l) (take-drop k 1 bytes h)
+
+pub follow-later : (bytes : List ℕ) (k i : ℕ) → i < length bytes
+    → allLater (take (suc k) (drop i bytes)) ≡ (isLater (getD bytes i 0) && allLater (take k (drop (suc i) bytes)))
+unfolding allLater
+follow-later bytes k i h = ap (λ (l : List ℕ). allLater l) (take-drop k i bytes h)
+
+-- the bits of a character, one byte at a time
+pub six-next : (bytes : List ℕ) (k i code : ℕ) → i < length bytes
+    → sixBits code (take (suc k) (drop i bytes)) ≡ sixBits (code * 64 + getD bytes i 0 % 64) (take k (drop (suc i) bytes))
+unfolding sixBits
+six-next bytes k i code h = ap (λ (l : List ℕ). sixBits code l) (take-drop k i bytes h)
+
+-- a character of a text ends within it
+pub letter-ends : (text : List ℕ) (at : ℕ) (letter : Letter) → letterAt (drop at text) ≡ Whole letter → at ≤ length text
+    → (1 ≤ letter .size) × (at + letter .size ≤ length text)
+letter-ends text at letter e h =
+    let s = letter-size (drop at text) letter e in
+    omega (arith, length-drop at text)

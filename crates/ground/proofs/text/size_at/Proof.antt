@@ -1,0 +1,78 @@
+-- The row of the first byte decides. Assumes nothing.
+use Prim.Native.Nat.{ℕ, _-_}
+use mathlib.Core.Path.{_≡_, ap, _∙_, sym}
+use mathlib.Core.List.{List}
+use borrow.Author.Needs.{needs}
+use native.Mathlib.Omega.{arith}
+use lib.ListN.{take, drop, getD, length-drop}
+use Rattle.ground.specs.Text.{leads, rowOf, letterOf, letterAt}
+use Rattle.ground.specs.Filling.{sizeOf}
+use Rattle.ground.specs.declared.text.LeadFound.the-variants.{Row, NoRow}
+use Rattle.ground.proofs.LeadLaws.{row-size}
+use Rattle.ground.proofs.LetterLaws.{letter-row, part-rest, part-first}
+use Rattle.ground.proofs.text.size_at.Statement.{statement}
+use Rattle.ground.proofs.text.size_at.Tie as tie
+
+abbrev at-row : tie.After-row → tie.Start
+at-row c = c .before .before .before .before .before
+
+row-found : (c : tie.After-row) → rowOf leads (getD (at-row c .args .text .now) (at-row c .args .at) 0) ≡ Row (c .row .given .0 .0)
+row-found c = sym (c .before .before .row-of .ensures) ∙ c .row .given .1
+
+shared-slice-read-row-of : tie.Need-shared-slice-read-row-of
+shared-slice-read-row-of c = search needs
+
+row-of-requires : tie.Need-row-of-requires
+row-of-requires c κs = search needs
+
+enum-known-row : tie.Need-enum-known-row
+enum-known-row c = search needs
+
+sub-size-by : tie.Need-sub-size-by
+sub-size-by c = search needs
+
+part-size-by-start : tie.Need-part-size-by-start
+part-size-by-start c = search needs
+
+part-size-by-end : tie.Need-part-size-by-end
+part-size-by-end c = search needs
+
+size-by-requires : tie.Need-size-by-requires
+size-by-requires c κs =
+    let a = at-row (c .before .before) .args in
+    let w = row-size (getD (a .text .now) (a .at) 0) (c .before .before .row .given .0 .0) (row-found (c .before .before)) in
+    (w .0, w .1, rw (part-rest (a .text .now) (a .at)) (omega (arith, length-drop (a .at) (a .text .now))))
+
+enum-told : tie.Need-enum-told
+enum-told c = search needs
+
+returns : tie.Need-returns
+returns c =
+    let r = c .before .before .before in
+    let a = at-row r .args in
+    let bytes = drop (a .at) (a .text .now) in
+    c .size-by .ensures
+    ∙ ap (λ (l : List ℕ). sizeOf (letterOf (r .row .given .0 .0) (getD l 0 0) (take (r .row .given .0 .0 .size - 1) (drop 1 l)))) (part-rest (a .text .now) (a .at))
+    ∙ sym (ap sizeOf (letter-row bytes (Row (r .row .given .0 .0)) (omega (arith, length-drop (a .at) (a .text .now))) (ap (λ (b : ℕ). rowOf leads b) (part-first (a .text .now) (a .at)) ∙ row-found r)))
+
+returns-2 : tie.Need-returns-2
+returns-2 c =
+    let a = c .before .before .before .before .before .args in
+    let bytes = drop (a .at) (a .text .now) in
+    sym (ap sizeOf (letter-row bytes NoRow (omega (arith, length-drop (a .at) (a .text .now)))
+    (ap (λ (b : ℕ). rowOf leads b) (part-first (a .text .now) (a .at)) ∙ sym (c .before .before .row-of .ensures) ∙ c .enum-told .given .1)))
+
+pub size-at-spec : {M : Type 1} → statement M
+size-at-spec =
+    tie.close
+    (tie.spec
+    shared-slice-read-row-of
+    row-of-requires
+    enum-known-row
+    sub-size-by
+    part-size-by-start
+    part-size-by-end
+    size-by-requires
+    enum-told
+    returns
+    returns-2)
