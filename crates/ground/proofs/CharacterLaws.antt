@@ -2,24 +2,26 @@
 use Prim.Native.Nat.{ℕ, _+_, _≤_, _<_}
 use mathlib.Core.Path.{_≡_, refl, ap, _∙_, sym}
 use mathlib.Core.Bool.{Bool, true, false, not, _||_}
-use mathlib.Core.List.{List}
-use mathlib.Core.Option.{Option, none, some}
+use mathlib.Core.List.{List, [], _∷_, map}
+use mathlib.Core.Option.{Option, none, some, orElse}
 use native.Mathlib.Omega.{arith}
-use lib.ListN.{length}
+use lib.ListN.{length, replicate}
+use lib.IntN.{pos}
 use lib.Dec.{ltb}
 use borrow.Author.Tests.{ltb-false, eqb-true}
 use Rattle.ground.specs.Limits.{textLimit, characterLimit}
-use Rattle.ground.specs.Text.{letters, sizes, wellFormed}
-use Rattle.ground.specs.Characters.{refuse, otherwise, textRefused, checkedBy, checked, Table, table, short, filledUnless, characters}
+use Rattle.ground.specs.Text.{leads, leadRow, allLater, sixBits, letterAt, lettersIn, letters, sizes, wellFormed, offsetsFrom, offsets, runs}
+use Rattle.ground.specs.Characters.{refuse, textRefused, checkedBy, checked, Table, table, short, filledUnless, characters}
 use Rattle.ground.specs.Filling.{Sound}
 use Rattle.ground.specs.declared.answer.Answer.{Answer}
-use Rattle.ground.specs.declared.answer.Answer.the-variants.{TooLong, NotUtf8, ShortRow}
+use Rattle.ground.specs.declared.answer.Answer.the-variants.{Done, TooLong, NotUtf8, ShortRow}
 use Rattle.ground.specs.declared.text.Checked.{Checked}
 use Rattle.ground.specs.declared.text.Checked.the-variants.{Passed, Refused}
+use Rattle.ground.proofs.RowLaws.{over-length, offsets-length, runs-length}
 
 -- what it means that the tests were passed
 pub passed : (text : List ℕ) (n : ℕ) → checked text ≡ Passed n → Sound text n
-unfolding checked
+unfolding checked orElse
 passed text n e = go (ltb textLimit (length text)) refl (wellFormed text) refl (ltb characterLimit (length (letters text))) refl e
   where
     no : (a : Answer) → Refused a ≡ Passed n → ⊥
@@ -27,7 +29,7 @@ passed text n e = go (ltb textLimit (length text)) refl (wellFormed text) refl (
 
     go : (long : Bool) → ltb textLimit (length text) ≡ long → (whole : Bool) → wellFormed text ≡ whole
         → (many : Bool) → ltb characterLimit (length (letters text)) ≡ many
-        → checkedBy (otherwise (refuse long TooLong) (otherwise (refuse (not whole) (NotUtf8 (sizes (letters text)))) (refuse many TooLong))) (length (letters text)) ≡ Passed n
+        → checkedBy (orElse (refuse long TooLong) (orElse (refuse (not whole) (NotUtf8 (sizes (letters text)))) (refuse many TooLong))) (length (letters text)) ≡ Passed n
         → Sound text n
     go true l whole w many m e = absurd (no TooLong e)
     go false l false w many m e = absurd (no (NotUtf8 (sizes (letters text))) e)
@@ -47,11 +49,45 @@ effect (Refused answer) text offset run = table answer offset run
 effect (Passed n) text offset run = filledUnless (refuse (short n offset || short n run) ShortRow) text offset run
 
 pub by-tests : (text offset run : List ℕ) (outcome : Checked) → checked text ≡ outcome → effect outcome text offset run ≡ characters text offset run
-unfolding checked characters
+unfolding checked characters orElse
 by-tests text offset run outcome e =
     ap (λ (c : Checked). effect c text offset run) (sym e) ∙ go (textRefused text)
   where
     go : (refused : Option Answer) → effect (checkedBy refused (length (letters text))) text offset run
-        ≡ filledUnless (otherwise refused (refuse (short (length (letters text)) offset || short (length (letters text)) run) ShortRow)) text offset run
+        ≡ filledUnless (orElse refused (refuse (short (length (letters text)) offset || short (length (letters text)) run) ShortRow)) text offset run
     go none = refl
     go (some answer) = refl
+
+-- ---- what a caller may lean on
+
+-- neither row changes its length
+pub lengths : (text offset run : List ℕ) → (length (characters text offset run .offset) ≡ length offset) × (length (characters text offset run .run) ≡ length run)
+lengths text offset run = go (checked text) refl
+  where
+    filled : (a b : Bool) → short (length (letters text)) offset ≡ a → short (length (letters text)) run ≡ b
+        → (length (filledUnless (refuse (a || b) ShortRow) text offset run .offset) ≡ length offset) × (length (filledUnless (refuse (a || b) ShortRow) text offset run .run) ≡ length run)
+    filled true b p q = (refl, refl)
+    filled false true p q = (refl, refl)
+    filled false false p q =
+        let ls = letters text in (
+          over-length (offsets ls) offset (omega (arith, offsets-length 0 ls, ltb-false (length offset) (length ls + 1) p)),
+          over-length (runs ls) run (omega (arith, runs-length ls, ltb-false (length run) (length ls + 1) q)),
+        )
+
+    go : (outcome : Checked) → checked text ≡ outcome → (length (characters text offset run .offset) ≡ length offset) × (length (characters text offset run .run) ≡ length run)
+    go (Refused answer) e = rw (← by-tests text offset run (Refused answer) e) (refl, refl)
+    go (Passed k) e =
+        rw (← by-tests text offset run (Passed k) e, passed text k e .count)
+        (filled (short (length (letters text)) offset) (short (length (letters text)) run) refl refl)
+
+-- Document 01's example L, and B's text: ED A0 80 is 1 at place 0, 41 C0 80 is 1 at place 1, F4 8F BF BF is one character; three kanji of three bytes.
+pub example-L :
+    map (λ (text : List ℕ). characters text (replicate 5 7) (replicate 5 7))
+    ((0xed ∷ 0xa0 ∷ 0x80 ∷ []) ∷ (0x41 ∷ 0xc0 ∷ 0x80 ∷ []) ∷ (0xf4 ∷ 0x8f ∷ 0xbf ∷ 0xbf ∷ []) ∷ (0xe6 ∷ 0x9d ∷ 0xb1 ∷ 0xe4 ∷ 0xba ∷ 0xac ∷ 0xe9 ∷ 0x83 ∷ 0xbd ∷ []) ∷ [])
+    ≡ table (NotUtf8 0) (7 ∷ 7 ∷ 7 ∷ 7 ∷ 7 ∷ []) (7 ∷ 7 ∷ 7 ∷ 7 ∷ 7 ∷ [])
+    ∷ table (NotUtf8 1) (7 ∷ 7 ∷ 7 ∷ 7 ∷ 7 ∷ []) (7 ∷ 7 ∷ 7 ∷ 7 ∷ 7 ∷ [])
+    ∷ table (Done 1 (pos 0)) (0 ∷ 4 ∷ 7 ∷ 7 ∷ 7 ∷ []) (0 ∷ 0 ∷ 7 ∷ 7 ∷ 7 ∷ [])
+    ∷ table (Done 3 (pos 0)) (0 ∷ 3 ∷ 6 ∷ 9 ∷ 7 ∷ []) (3 ∷ 2 ∷ 1 ∷ 0 ∷ 7 ∷ [])
+    ∷ []
+unfolding characters orElse letters lettersIn letterAt leads leadRow allLater sixBits sizes offsetsFrom runs
+example-L = refl

@@ -3,13 +3,14 @@
 use Prim.Native.Nat.{ℕ, suc, _+_, _≤_, _<_}
 use mathlib.Core.Path.{_≡_, refl, ap, _∙_, sym}
 use mathlib.Core.Bool.{Bool, true, false, cond, _&&_, _||_, and-false}
-use mathlib.Core.List.{List, [], _∷_}
+use mathlib.Core.List.{List, [], _∷_, List·Memᴰ, List·Memᴰ·not-nil, List·Memᴰ·cases-cons}
+use mathlib.Core.Logic.{⊎-elim}
 use native.Mathlib.Omega.{arith}
-use lib.Dec.{leb, eqb}
+use lib.Dec.{leb, ltb, eqb}
 use lib.ListN.{length, drop, getD}
 use lib.Seq.{drop-cons}
-use borrow.Author.Tests.{leb-true, leb-false, eqb-true, le-leb, lt-leb}
-use Rattle.ground.specs.Text.{leads, rowOf, isLead, within}
+use borrow.Author.Tests.{leb-true, leb-false, ltb-true, eqb-true, le-leb, lt-leb}
+use Rattle.ground.specs.Text.{leads, leadRow, isLead, within}
 use Rattle.ground.specs.Filling.{from, sizeByLead, inBlock}
 use Rattle.ground.specs.declared.text.Lead.{Lead}
 use Rattle.ground.specs.declared.text.LeadFound.{LeadFound}
@@ -79,43 +80,78 @@ both true b e = (refl, e)
 both false b e = absurd (mathlib.Core.Bool.false≢true e)
 
 -- what a test says of every row it says of the row that is found
-pub found : (test : Lead → Bool) (rows : List Lead) → every test rows ≡ true → (byte : ℕ) (row : Lead) → rowOf rows byte ≡ Row row → test row ≡ true
-unfolding rowOf
+pub found : (test : Lead → Bool) (rows : List Lead) → every test rows ≡ true → (byte : ℕ) (row : Lead) → leadRow rows byte ≡ Row row → test row ≡ true
+unfolding leadRow
 found test [] e byte row f = let z : _≡_ {A = ℕ} 0 1 = cc in absurd (omega arith)
 found test (first ∷ rows) e byte row f = go (isLead first byte) f (found test rows (both (test first) (every test rows) e .1) byte row)
   where
-    go : (t : Bool) → cond t (Row first) (rowOf rows byte) ≡ Row row → (rowOf rows byte ≡ Row row → test row ≡ true) → test row ≡ true
+    go : (t : Bool) → cond t (Row first) (leadRow rows byte) ≡ Row row → (leadRow rows byte ≡ Row row → test row ≡ true) → test row ≡ true
     go true f more = let q : first ≡ row = cc in rw (← q) (both (test first) (every test rows) e .0)
     go false f more = more f
 
 -- the rows from i on find the i-th where it has the byte, and otherwise what those behind it find
 pub row-here : (rows : List Lead) (i : ℕ) (none : Lead) (byte : ℕ) → i < length rows → (t : Bool) → isLead (getD rows i none) byte ≡ t
-    → rowOf (drop i rows) byte ≡ cond t (Row (getD rows i none)) (rowOf (drop (suc i) rows) byte)
-unfolding rowOf
+    → leadRow (drop i rows) byte ≡ cond t (Row (getD rows i none)) (leadRow (drop (suc i) rows) byte)
+unfolding leadRow
 row-here rows i none byte h t e =
-    ap (λ (l : List Lead). rowOf l byte) (drop-cons rows i none h)
-    ∙ ap (λ (b : Bool). cond b (Row (getD rows i none)) (rowOf (drop (suc i) rows) byte)) e
+    ap (λ (l : List Lead). leadRow l byte) (drop-cons rows i none h)
+    ∙ ap (λ (b : Bool). cond b (Row (getD rows i none)) (leadRow (drop (suc i) rows) byte)) e
 
 -- the row that is found has the byte
-pub row-lead : (rows : List Lead) (byte : ℕ) (row : Lead) → rowOf rows byte ≡ Row row → isLead row byte ≡ true
-unfolding rowOf
+pub row-lead : (rows : List Lead) (byte : ℕ) (row : Lead) → leadRow rows byte ≡ Row row → isLead row byte ≡ true
+unfolding leadRow
 row-lead [] byte row f = let z : _≡_ {A = ℕ} 0 1 = cc in absurd (omega arith)
 row-lead (first ∷ rows) byte row f = go (isLead first byte) refl f (row-lead rows byte row)
   where
-    go : (t : Bool) → isLead first byte ≡ t → cond t (Row first) (rowOf rows byte) ≡ Row row → (rowOf rows byte ≡ Row row → isLead row byte ≡ true)
+    go : (t : Bool) → isLead first byte ≡ t → cond t (Row first) (leadRow rows byte) ≡ Row row → (leadRow rows byte ≡ Row row → isLead row byte ≡ true)
         → isLead row byte ≡ true
     go true e f more = let q : first ≡ row = cc in rw (← q) e
     go false e f more = more f
+
+-- No row's lead bytes reach up to those of a row behind it.
+abbrev apart : List Lead → Bool
+apart [] = true
+apart (row ∷ rows) = every (λ (later : Lead). ltb (row .high) (later .low)) rows && apart rows
+
+every-member : (test : Lead → Bool) (rows : List Lead) → every test rows ≡ true → (row : Lead) → List·Memᴰ row rows → test row ≡ true
+every-member test [] e row m = absurd (List·Memᴰ·not-nil m)
+every-member test (first ∷ rows) e row m =
+    let b = both (test first) (every test rows) e in
+    ⊎-elim (λ (q : row ≡ first). rw q (b .0)) (λ (n : List·Memᴰ row rows). every-member test rows (b .1) row n) (List·Memᴰ·cases-cons m)
+
+-- So the row that has a byte is the one that is found, whatever the order of the rows.
+only : (rows : List Lead) → apart rows ≡ true → (byte : ℕ) (row : Lead) → List·Memᴰ row rows → isLead row byte ≡ true → leadRow rows byte ≡ Row row
+unfolding leadRow
+only [] a byte row m e = absurd (List·Memᴰ·not-nil m)
+only (first ∷ rows) a byte row m e =
+    ⊎-elim
+    (λ (q : row ≡ first). rw (← q, e))
+    (λ (n : List·Memᴰ row rows). go (isLead first byte) refl (only rows (b .1) byte row n e) (ltb-true (first .high) (row .low) (every-member (λ (later : Lead). ltb (first .high) (later .low)) rows (b .0) row n)))
+    (List·Memᴰ·cases-cons m)
+  where
+    b : (every (λ (later : Lead). ltb (first .high) (later .low)) rows ≡ true) × (apart rows ≡ true)
+    b = both (every (λ (later : Lead). ltb (first .high) (later .low)) rows) (apart rows) a
+
+    go : (t : Bool) → isLead first byte ≡ t → leadRow rows byte ≡ Row row → first .high < row .low → cond t (Row first) (leadRow rows byte) ≡ Row row
+    go false q found above = found
+    go true q found above =
+        let lower = both (leb (first .low) byte) (leb byte (first .high)) q in
+        let higher = both (leb (row .low) byte) (leb byte (row .high)) e in
+        absurd (omega (arith, leb-true byte (first .high) (lower .1), leb-true (row .low) byte (higher .0)))
+
+pub row-exact : (byte : ℕ) (row : Lead) → List·Memᴰ row leads → isLead row byte ≡ true → leadRow leads byte ≡ Row row
+unfolding leads
+row-exact byte row m e = only leads refl byte row m e
 
 -- The table's rule: a row's length is from 1 to 4, and its first and its last lead byte tell it.
 rule : Lead → Bool
 rule row = within 1 4 (row .size) && (eqb (sizeByLead (row .low)) (row .size) && eqb (sizeByLead (row .high)) (row .size))
 
-holds : (byte : ℕ) (row : Lead) → rowOf leads byte ≡ Row row → rule row ≡ true
+holds : (byte : ℕ) (row : Lead) → leadRow leads byte ≡ Row row → rule row ≡ true
 unfolding leads rule
 holds byte row f = found rule leads refl byte row f
 
-pub row-size : (byte : ℕ) (row : Lead) → rowOf leads byte ≡ Row row → (1 ≤ row .size) × (row .size ≤ 4)
+pub row-size : (byte : ℕ) (row : Lead) → leadRow leads byte ≡ Row row → (1 ≤ row .size) × (row .size ≤ 4)
 unfolding rule
 row-size byte row f =
     let r = both (within 1 4 (row .size)) (eqb (sizeByLead (row .low)) (row .size) && eqb (sizeByLead (row .high)) (row .size)) (holds byte row f) in
@@ -127,7 +163,7 @@ size-mono : (a b : ℕ) → a ≤ b → sizeByLead a ≤ sizeByLead b
 size-mono a b h = omega (arith, from-mono 0x80 a b h, from-mono 0xe0 a b h, from-mono 0xf0 a b h)
 
 -- so each lead byte of a row tells the row's length
-pub lead-size : (byte : ℕ) (row : Lead) → rowOf leads byte ≡ Row row → sizeByLead byte ≡ row .size
+pub lead-size : (byte : ℕ) (row : Lead) → leadRow leads byte ≡ Row row → sizeByLead byte ≡ row .size
 unfolding rule
 lead-size byte row f =
     let r = both (within 1 4 (row .size)) (eqb (sizeByLead (row .low)) (row .size) && eqb (sizeByLead (row .high)) (row .size)) (holds byte row f) in

@@ -9,7 +9,7 @@ use lib.Dec.{eqb}
 use lib.ListN.{length, take, drop, getD, length-take, length-drop}
 use lib.Seq.{drop-cons, take-all, getD-drop}
 use borrow.Author.Tests.{eqb-true, eq-eqb, ne-eqb}
-use Rattle.ground.specs.Text.{leads, rowOf, isSecond, isLater, allLater, mayFollow, leadBits, sixBits, letterOf, letterBy, letterAt}
+use Rattle.ground.specs.Text.{leads, leadRow, isSecond, isLater, allLater, mayFollow, leadBits, sixBits, letterOf, letterBy, letterAt}
 use Rattle.ground.specs.Filling.{sizeOf}
 use Rattle.ground.specs.declared.text.Lead.{Lead}
 use Rattle.ground.specs.declared.text.LeadFound.{LeadFound}
@@ -30,7 +30,7 @@ pub judged : (row : Lead) (byte : ℕ) (following : List ℕ) → suc (length fo
 judged row byte following e t m = rw (eq-eqb (suc (length following)) (row .size) e, m)
 
 -- the row of the first byte decides
-pub letter-row : (bytes : List ℕ) (found : LeadFound) → 0 < length bytes → rowOf leads (getD bytes 0 0) ≡ found → letterAt bytes ≡ letterBy found (getD bytes 0 0) (drop 1 bytes)
+pub letter-row : (bytes : List ℕ) (found : LeadFound) → 0 < length bytes → leadRow leads (getD bytes 0 0) ≡ found → letterAt bytes ≡ letterBy found (getD bytes 0 0) (drop 1 bytes)
 unfolding letterAt
 letter-row [] found h e = absurd (omega arith)
 letter-row (byte ∷ rest) found h e = ap (λ (f : LeadFound). letterBy f byte rest) e
@@ -38,7 +38,7 @@ letter-row (byte ∷ rest) found h e = ap (λ (f : LeadFound). letterBy f byte r
 -- What is known of a character: the row of its lead byte gives its length, and its code point is made of as many bytes.
 pub record Parts (bytes : List ℕ) (letter : Letter) : Type 0 where
   pub row : Lead
-  pub lead : rowOf leads (getD bytes 0 0) ≡ Row row
+  pub lead : leadRow leads (getD bytes 0 0) ≡ Row row
   pub size : letter .size ≡ row .size
   pub code : letter .code ≡ sixBits (leadBits (letter .size - 1) (getD bytes 0 0)) (take (letter .size - 1) (drop 1 bytes))
   pub enough : letter .size ≤ length bytes
@@ -46,9 +46,9 @@ pub record Parts (bytes : List ℕ) (letter : Letter) : Type 0 where
 pub letter-parts : (bytes : List ℕ) (letter : Letter) → letterAt bytes ≡ Whole letter → Parts bytes letter
 unfolding letterAt
 letter-parts [] letter e = let z : _≡_ {A = ℕ} 0 1 = cc in absurd (omega arith)
-letter-parts (byte ∷ rest) letter e = go (rowOf leads byte) refl e
+letter-parts (byte ∷ rest) letter e = go (leadRow leads byte) refl e
   where
-    made : (row : Lead) → rowOf leads byte ≡ Row row → (following : List ℕ) → following ≡ take (row .size - 1) rest → (t : Bool) → eqb (suc (length following)) (row .size) ≡ t
+    made : (row : Lead) → leadRow leads byte ≡ Row row → (following : List ℕ) → following ≡ take (row .size - 1) rest → (t : Bool) → eqb (suc (length following)) (row .size) ≡ t
         → (m : Bool) → cond (t && m) (Whole (record { size = row .size; code = sixBits (leadBits (length following) byte) following })) Broken ≡ Whole letter
         → Parts (byte ∷ rest) letter
     made row f following l true t true w =
@@ -67,7 +67,7 @@ letter-parts (byte ∷ rest) letter e = go (rowOf leads byte) refl e
     made row f following l true t false w = let z : _≡_ {A = ℕ} 0 1 = cc in absurd (omega arith)
     made row f following l false t m w = let z : _≡_ {A = ℕ} 0 1 = cc in absurd (omega arith)
 
-    go : (r : LeadFound) → rowOf leads byte ≡ r → letterBy r byte rest ≡ Whole letter → Parts (byte ∷ rest) letter
+    go : (r : LeadFound) → leadRow leads byte ≡ r → letterBy r byte rest ≡ Whole letter → Parts (byte ∷ rest) letter
     go NoRow f w = let z : _≡_ {A = ℕ} 0 1 = cc in absurd (omega arith)
     go (Row row) f w =
         made row f (take (row .size - 1) rest) refl (eqb (suc (length (take (row .size - 1) rest))) (row .size)) refl (mayFollow row (take (row .size - 1) rest)) w

@@ -7,7 +7,7 @@ use native.Mathlib.Nat.{suc-mul, mul-le-mul-right}
 use lib.ListN.{length, drop, getD, length-drop}
 use lib.Seq.{getD-take, getD-drop, length-take-le}
 use lib.IntN.{ℤ, pos}
-use Rattle.ground.specs.Matrix.{rowOf, valueIn, joint}
+use Rattle.ground.specs.Matrix.{matrixRow, valueIn, joint}
 
 -- A joint is the value at l × width + r.
 pub joint-at : (matrix : List ℤ) (width l r : ℕ) → r < width → joint matrix width l r ≡ getD matrix (l * width + r) (pos 0)
@@ -15,13 +15,13 @@ unfolding joint
 joint-at matrix width l r h = rw (getD-take, getD-drop)
 
 -- It is what `row` and then `joint` read.
-pub joint-row : (matrix : List ℤ) (width l r : ℕ) → valueIn (rowOf matrix width l) r ≡ joint matrix width l r
+pub joint-row : (matrix : List ℤ) (width l r : ℕ) → valueIn (matrixRow matrix width l) r ≡ joint matrix width l r
 unfolding joint
 joint-row matrix width l r = refl
 
 -- A row that lies within the matrix is as long as the matrix is wide.
-pub row-length : (matrix : List ℤ) (width l : ℕ) → l * width + width ≤ length matrix → length (rowOf matrix width l) ≡ width
-unfolding rowOf
+pub row-length : (matrix : List ℤ) (width l : ℕ) → l * width + width ≤ length matrix → length (matrixRow matrix width l) ≡ width
+unfolding matrixRow
 row-length matrix width l h = length-take-le width (drop (l * width) matrix) (rw length-drop (omega arith))
 
 -- The row of a left id below the height does.

@@ -6,10 +6,10 @@ use mathlib.Core.List.{List, [], _∷_, _++_}
 use native.Mathlib.Omega.{arith}
 use native.Mathlib.Nat.{zero-add}
 use native.Mathlib.Numerals.{add-one}
-use lib.ListN.{length, take, drop, getD, set, take-append-drop, length-take, drop-of-length-le}
+use lib.ListN.{length, take, drop, getD, set, take-append-drop, length-append, length-take, length-drop, drop-of-length-le}
 use lib.Seq.{sets, sets-eq, take-suc, drop-cons, append-snoc, getD-at, getD-append-add, getD-take, set-at, length-take-le, getD-set-same}
 use Rattle.ground.specs.Text.{isKanji, runOf, runAhead, runs, offsetsFrom}
-use Rattle.ground.specs.Characters.{over}
+use Rattle.ground.specs.Rows.{over}
 use Rattle.ground.specs.Filling.{markOf, marked, marks, counted}
 use Rattle.ground.specs.declared.text.Letter.{Letter}
 
@@ -29,6 +29,10 @@ pub offsets-length : (at : ℕ) (ls : List Letter) → length (offsetsFrom at ls
 unfolding offsetsFrom
 offsets-length at [] = refl
 offsets-length at (l ∷ ls) = ap suc (offsets-length (at + l .size) ls)
+
+-- a write that the row has room for keeps its length
+pub over-length {ℓ} : {A : Type ℓ} (new old : List A) → length new ≤ length old → length (over new old) ≡ length old
+over-length new old h = simp (length-append, length-drop) (omega arith)
 
 -- stores from place 0 on are one write over the row
 pub sets-over : (new old : List ℕ) → length new ≤ length old → sets old 0 new ≡ over new old

@@ -83,3 +83,30 @@ sizes-most (suc most) bytes h = go (letterAt bytes) refl (sizes-most most)
 
 pub sizes-within : (bytes : List ℕ) → sizes (letters bytes) ≤ length bytes
 sizes-within bytes = sizes-most (length bytes) bytes (omega arith)
+
+-- ---- the longest run
+
+-- Whole well-formed characters, one after the other, from the bytes' start.
+pub data Run : List ℕ → List Letter → Type 0 where
+  none : {bytes : List ℕ} → Run bytes []
+  one : {bytes : List ℕ} {letter : Letter} {more : List Letter} → letterAt bytes ≡ Whole letter → Run (drop (letter .size) bytes) more → Run bytes (letter ∷ more)
+
+-- The characters of a text are such a run ..
+run-most : (most : ℕ) (bytes : List ℕ) → length bytes ≤ most → Run bytes (letters bytes)
+run-most zero bytes h = rw (letters-end bytes 0 (omega arith)) none
+run-most (suc most) bytes h = go (letterAt bytes) refl (run-most most)
+  where
+    go : (next : Next) → letterAt bytes ≡ next → ((less : List ℕ) → length less ≤ most → Run less (letters less)) → Run bytes (letters bytes)
+    go Broken e again = rw (letters-broken bytes e) none
+    go (Whole letter) e again =
+        let s = letter-size bytes letter e in
+        rw (letters-whole bytes letter e) (one e (again (drop (letter .size) bytes) (omega (arith, length-drop (letter .size) bytes))))
+
+pub letters-run : (bytes : List ℕ) → Run bytes (letters bytes)
+letters-run bytes = run-most (length bytes) bytes (omega arith)
+
+-- .. and no run goes further.
+pub longest : {bytes : List ℕ} {run : List Letter} → Run bytes run → sizes run ≤ sizes (letters bytes)
+unfolding sizes
+longest none = omega arith
+longest {bytes} (one {letter = letter} e r) = let h = longest r in rw (letters-whole bytes letter e) (omega arith)

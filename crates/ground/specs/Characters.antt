@@ -1,12 +1,13 @@
 -- The public operation "character table alone": its tests in document 01's order, and its whole effect.
 use Prim.Native.Nat.{ℕ, _+_}
 use mathlib.Core.Bool.{Bool, true, false, not, _||_}
-use mathlib.Core.List.{List, _++_}
-use mathlib.Core.Option.{Option, none, some}
-use lib.ListN.{length, drop}
+use mathlib.Core.List.{List}
+use mathlib.Core.Option.{Option, none, some, orElse}
+use lib.ListN.{length}
 use lib.IntN.{pos}
 use lib.Dec.{ltb}
 use Rattle.ground.specs.Limits.{textLimit, characterLimit}
+use Rattle.ground.specs.Rows.{over}
 use Rattle.ground.specs.Text.{letters, sizes, wellFormed, offsets, runs}
 use Rattle.ground.specs.declared.answer.Answer.{Answer}
 use Rattle.ground.specs.declared.answer.Answer.the-variants.{Done, TooLong, NotUtf8, ShortRow}
@@ -18,36 +19,29 @@ abbrev pub refuse : Bool → Answer → Option Answer
 refuse true answer = some answer
 refuse false answer = none
 
--- The first test that holds decides.
-abbrev pub otherwise : Option Answer → Option Answer → Option Answer
-otherwise none later = later
-otherwise (some answer) later = some answer
-
--- The tests of a text: 2, 1, 2.
+-- The tests of a text, 2, 1 and 2: the first that holds decides.
 abbrev pub textRefused : List ℕ → Option Answer
 textRefused text =
-    otherwise (refuse (ltb textLimit (length text)) TooLong)
-    (otherwise (refuse (not (wellFormed text)) (NotUtf8 (sizes (letters text))))
+    orElse (refuse (ltb textLimit (length text)) TooLong)
+    (orElse (refuse (not (wellFormed text)) (NotUtf8 (sizes (letters text))))
     (refuse (ltb characterLimit (length (letters text))) TooLong))
 
--- What the tests of a text tell: the answer of the first that holds, or the number of characters.
+-- The answer of the test that holds, or, where none does, the number of characters.
 abbrev pub checkedBy : Option Answer → ℕ → Checked
 checkedBy none n = Passed n
 checkedBy (some answer) n = Refused answer
 
+-- What the tests of a text tell.
 unfoldable pub checked : List ℕ → Checked
 checked text = checkedBy (textRefused text) (length (letters text))
 
--- A row after a write from its start: the places beyond keep their contents.
-abbrev pub over : List ℕ → List ℕ → List ℕ
-over new old = new ++ drop (length new) old
-
--- The answer, and the two rows after the call.
+-- What a call leaves: the answer, and the two rows after it.
 pub record Table : Type 0 where
   pub answer : Answer
   pub offset : List ℕ
   pub run : List ℕ
 
+-- An answer and two rows, put together.
 abbrev pub table : Answer → List ℕ → List ℕ → Table
 table answer offset run = record { answer = answer; offset = offset; run = run }
 
@@ -55,16 +49,17 @@ table answer offset run = record { answer = answer; offset = offset; run = run }
 abbrev pub short : ℕ → List ℕ → Bool
 short n row = ltb (length row) (n + 1)
 
--- A refusal changes nothing.
+-- A refusal changes nothing; otherwise both rows are filled, and the places beyond keep their contents.
 abbrev pub filledUnless : Option Answer → List ℕ → List ℕ → List ℕ → Table
 filledUnless (some answer) text offset run = table answer offset run
 filledUnless none text offset run =
     table (Done (length (letters text)) (pos 0)) (over (offsets (letters text)) offset) (over (runs (letters text)) run)
 
+-- The character table: the tests of the text, then 7, then the filling.
 unfoldable pub characters : List ℕ → List ℕ → List ℕ → Table
 characters text offset run =
     filledUnless
-    (otherwise (textRefused text)
+    (orElse (textRefused text)
     (refuse (short (length (letters text)) offset || short (length (letters text)) run) ShortRow))
     text
     offset

@@ -3,7 +3,6 @@ use Prim.Native.Nat.{ℕ, _-_, _*_, _≤_}
 use mathlib.Core.Bool.{Bool, cond}
 use lib.Dec.{ltb, leb}
 use Rattle.ground.specs.Limits.{priceLimit}
-use Rattle.ground.specs.declared.charge.Penalty.{Penalty}
 use Rattle.ground.specs.declared.charge.Mode.{Mode}
 use Rattle.ground.specs.declared.charge.Mode.the-variants.{Normal, Decompose}
 

@@ -1,6 +1,6 @@
 -- Document 01, "Word entry and matrix": the ten bytes of a word entry, and the kinds.
 use Prim.Native.Nat.{ℕ, zero, suc, _+_, _-_, _*_}
-use mathlib.Core.Bool.{Bool, true, false}
+use mathlib.Core.Bool.{cond}
 use mathlib.Core.List.{List}
 use lib.ListN.{take, drop, getD}
 use lib.IntN.{ℤ, pos, negsuc}
@@ -17,12 +17,8 @@ abbrev pub u32At : List ℕ → ℕ → ℕ
 u32At bytes i = u16At bytes i + 65536 * u16At bytes (i + 2)
 
 -- Sixteen bits read with a sign: from 32,768 on they stand for the number less 65,536 (negsuc m is −1 − m).
-abbrev pub signedIf : Bool → ℕ → ℤ
-signedIf true x = pos x
-signedIf false x = negsuc (65535 - x)
-
 abbrev pub signed16 : ℕ → ℤ
-signed16 x = signedIf (ltb x 32768) x
+signed16 x = cond (ltb x 32768) (pos x) (negsuc (65535 - x))
 
 -- How many bytes a word entry has.
 abbrev pub entryBytes : ℕ

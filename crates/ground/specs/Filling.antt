@@ -44,6 +44,7 @@ inBlock low high code = cond (within low high code) 1 0
 abbrev pub markOf : ℕ → ℕ
 markOf code = cond (isKanji code) 1 0
 
+-- Whether a mark is a kanji's.
 abbrev pub marked : ℕ → Bool
 marked mark = not (eqb mark 0)
 

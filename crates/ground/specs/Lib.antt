@@ -1,4 +1,5 @@
 pub mod Limits
+pub mod Rows
 pub mod Answer
 pub mod Entry
 pub mod Matrix

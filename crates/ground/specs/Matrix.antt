@@ -5,13 +5,13 @@ use lib.ListN.{take, drop, getD}
 use lib.IntN.{ℤ, pos}
 
 -- The row of a later word with left id l: the values from l × width on, `width` many.
-unfoldable pub rowOf : List ℤ → ℕ → ℕ → List ℤ
-rowOf matrix width l = take width (drop (l * width) matrix)
+unfoldable pub matrixRow : List ℤ → ℕ → ℕ → List ℤ
+matrixRow matrix width l = take width (drop (l * width) matrix)
 
 -- An earlier word with right id r joined to it: the value at r in that row, which stands at l × width + r in the matrix.
 abbrev pub valueIn : List ℤ → ℕ → ℤ
 valueIn row r = getD row r (pos 0)
 
 unfoldable pub joint : List ℤ → ℕ → ℕ → ℕ → ℤ
-unfolding rowOf
-joint matrix width l r = valueIn (rowOf matrix width l) r
+unfolding matrixRow
+joint matrix width l r = valueIn (matrixRow matrix width l) r

@@ -15,7 +15,7 @@ use Rattle.ground.specs.declared.text.Next.the-variants.{Whole, Broken}
 abbrev pub within : ℕ → ℕ → ℕ → Bool
 within low high x = leb low x && leb x high
 
--- ---- one character
+-- ---- the lead bytes
 
 -- A row of the table: lead bytes, second bytes, length.
 abbrev pub lead : ℕ → ℕ → ℕ → ℕ → ℕ → Lead
@@ -36,70 +36,83 @@ leads =
     ∷ lead 0xf4 0xf4 0x80 0x8f 4
     ∷ []
 
--- Whether a byte is one of a row's lead bytes, one of its second bytes, a later byte.
+-- Whether a byte is one of a row's lead bytes.
 abbrev pub isLead : Lead → ℕ → Bool
 isLead row byte = within (row .low) (row .high) byte
 
+-- The row that has the byte as a lead byte. (No two rows have one in common: `row-exact`.)
+unfoldable pub leadRow : List Lead → ℕ → LeadFound
+leadRow [] byte = NoRow
+leadRow (row ∷ rows) byte = cond (isLead row byte) (Row row) (leadRow rows byte)
+
+-- ---- one character
+
+-- Whether a byte is one of a row's second bytes.
 abbrev pub isSecond : Lead → ℕ → Bool
 isSecond row byte = within (row .«second_low») (row .«second_high») byte
 
+-- Later bytes are 80–BF.
 abbrev pub isLater : ℕ → Bool
 isLater byte = within 0x80 0xbf byte
 
--- The row that has the byte as a lead byte.
-unfoldable pub rowOf : List Lead → ℕ → LeadFound
-rowOf [] byte = NoRow
-rowOf (row ∷ rows) byte = cond (isLead row byte) (Row row) (rowOf rows byte)
-
+-- Whether all of the bytes are later bytes.
 unfoldable pub allLater : List ℕ → Bool
 allLater [] = true
 allLater (byte ∷ bytes) = isLater byte && allLater bytes
 
--- What may stand behind a row's lead byte: a second byte of the row and then later bytes.
+-- What may follow a lead byte of the row: nothing, or a second byte and then later bytes.
 abbrev pub mayFollow : Lead → List ℕ → Bool
 mayFollow row [] = true
 mayFollow row (second ∷ later) = isSecond row second && allLater later
 
--- The bits of a character, RFC 3629, section 3: 0xxxxxxx, 110xxxxx, 1110xxxx, 11110xxx by the number of bytes that follow, and 10xxxxxx of each of those.
+-- The bits x of a lead byte, by the number of bytes that follow it: 0xxxxxxx, 110xxxxx, 1110xxxx, 11110xxx (RFC 3629, section 3).
 abbrev pub leadBits : ℕ → ℕ → ℕ
 leadBits zero byte = byte
 leadBits (suc zero) byte = byte % 32
 leadBits (suc (suc zero)) byte = byte % 16
-leadBits (suc (suc (suc n))) byte = byte % 8
+leadBits (suc (suc (suc more))) byte = byte % 8
 
+-- The bits so far, with six more of each byte that follows: 10xxxxxx.
 unfoldable pub sixBits : ℕ → List ℕ → ℕ
-sixBits code [] = code
-sixBits code (byte ∷ bytes) = sixBits (code * 64 + byte % 64) bytes
+sixBits bits [] = bits
+sixBits bits (byte ∷ bytes) = sixBits (bits * 64 + byte % 64) bytes
 
--- A character of a row: the lead byte and the bytes that follow it, as many as the row's length says.
+-- The code point of a lead byte and the bytes that follow it.
+abbrev pub codeOf : ℕ → List ℕ → ℕ
+codeOf byte following = sixBits (leadBits (length following) byte) following
+
+-- A character of a row: it has as many bytes as the row's length says, and those behind the lead byte may follow it.
 abbrev pub letterOf : Lead → ℕ → List ℕ → Next
 letterOf row byte following =
     cond (eqb (suc (length following)) (row .size) && mayFollow row following)
-    (Whole (record { size = row .size; code = sixBits (leadBits (length following) byte) following }))
+    (Whole (record { size = row .size; code = codeOf byte following }))
     Broken
 
+-- The character that a lead byte and the rest begin with: by the lead byte's row.
 abbrev pub letterBy : LeadFound → ℕ → List ℕ → Next
 letterBy NoRow byte rest = Broken
 letterBy (Row row) byte rest = letterOf row byte (take (row .size - 1) rest)
 
 -- The character that the bytes begin with, if they begin with a whole well-formed one.
 unfoldable pub letterAt : List ℕ → Next
-unfolding leads rowOf
+unfolding leads leadRow
 letterAt [] = Broken
-letterAt (byte ∷ rest) = letterBy (rowOf leads byte) byte rest
+letterAt (byte ∷ rest) = letterBy (leadRow leads byte) byte rest
 
 -- ---- the text
 
--- The longest run of whole well-formed characters from the start. (At most `most` of them; a text has no more characters than bytes.)
+-- A whole character and those behind it; nothing where none stands.
 abbrev pub followedBy : Next → (ℕ → List Letter) → List Letter
 followedBy Broken more = []
 followedBy (Whole letter) more = letter ∷ more (letter .size)
 
+-- The whole well-formed characters from the start, one after the other, at most `most` of them.
 unfoldable pub lettersIn : ℕ → List ℕ → List Letter
 unfolding letterAt
 lettersIn zero bytes = []
 lettersIn (suc most) bytes = followedBy (letterAt bytes) (λ (size : ℕ). lettersIn most (drop size bytes))
 
+-- The longest run of whole well-formed characters from the start (`longest`). A text has no more characters than bytes, so the bound cuts none off.
 unfoldable pub letters : List ℕ → List Letter
 unfolding lettersIn
 letters bytes = lettersIn (length bytes) bytes
@@ -115,25 +128,28 @@ wellFormed bytes = eqb (sizes (letters bytes)) (length bytes)
 
 -- ---- the rows
 
--- Offset row: where each character starts; behind the last one, where it ends.
+-- Where each of the characters starts, and behind the last one where it ends, if the first starts at `at`.
 unfoldable pub offsetsFrom : ℕ → List Letter → List ℕ
 offsetsFrom at [] = at ∷ []
 offsetsFrom at (letter ∷ more) = at ∷ offsetsFrom (at + letter .size) more
 
+-- Offset row: where each character starts; at n the text length.
 abbrev pub offsets : List Letter → List ℕ
-offsets more = offsetsFrom 0 more
+offsets all = offsetsFrom 0 all
 
 -- Kanji by document 000.
 abbrev pub isKanji : ℕ → Bool
 isKanji code = within 0x4e00 0x9faf code || within 0x3400 0x4dbf code
 
--- Run row: 0 if the character is no kanji, otherwise 1 + the run behind it; behind the last one 0.
+-- A run: 0 if the character is no kanji, otherwise 1 + the run behind it.
 abbrev pub runOf : Bool → ℕ → ℕ
 runOf kanji behind = cond kanji (1 + behind) 0
 
+-- The runs behind a character, with its own in front.
 abbrev pub runAhead : Bool → List ℕ → List ℕ
 runAhead kanji behind = runOf kanji (getD behind 0 0) ∷ behind
 
+-- Run row: the run at each character; at n it is 0.
 unfoldable pub runs : List Letter → List ℕ
 runs [] = 0 ∷ []
 runs (letter ∷ more) = runAhead (isKanji (letter .code)) (runs more)

@@ -4,12 +4,12 @@ ghost use mathlib.Core.Path.{_≡_};
 ghost use Prim.Native.Nat.{_+_, _*_, _≤_, _<_, _^_};
 ghost use lib.ListN.{length};
 ghost use lib.Signed.{mag};
-ghost use Rattle.ground.specs.Matrix.{rowOf, valueIn};
+ghost use Rattle.ground.specs.Matrix.{matrixRow, valueIn};
 
 // The row of a later word's left id.
 pub fn row(matrix: &[i16], width: usize, left_id: usize) -> &[i16]
     requires { ⌜ «left_id» * width + width ≤ length (now matrix) ⌝ }
-    ensures { λ r. ⌜ now r ≡ rowOf (now (matrix .entry)) width «left_id» ⌝ }
+    ensures { λ r. ⌜ now r ≡ matrixRow (now (matrix .entry)) width «left_id» ⌝ }
 {
     let from = left_id * width;
     let to = from + width;

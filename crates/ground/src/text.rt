@@ -1,27 +1,12 @@
 // The text (document 01, piece 2): UTF-8 by the table of lead bytes, kanji, and the two rows of the character table.
 use crate::answer::Answer;
 ghost use mathlib.Core.Path.{_≡_};
-ghost use mathlib.Core.Bool.{true};
 ghost use Prim.Native.Nat.{_+_, _-_, _*_, _%_, _^_, _<_, _≤_};
 ghost use lib.ListN.{length, take, drop, getD};
 ghost use Rattle.ground.specs.Limits.{textLimit, characterLimit};
-ghost use Rattle.ground.specs.Text.{
-  leads,
-  rowOf,
-  mayFollow,
-  leadBits,
-  sixBits,
-  letterOf,
-  letterAt,
-  letters,
-  sizes,
-  wellFormed,
-  offsets,
-  runs,
-  runOf,
-  isKanji,
-};
-ghost use Rattle.ground.specs.Characters.{checked, characters, table, over};
+ghost use Rattle.ground.specs.Rows.{over};
+ghost use Rattle.ground.specs.Text.{leads, leadRow, mayFollow, letterOf, letterAt, letters, sizes, offsets, runs, runOf};
+ghost use Rattle.ground.specs.Characters.{checked, table};
 ghost use Rattle.ground.specs.Filling.{Sound, sizeOf, from, sizeByLead, letterOfSize, inBlock, markOf, marked, marks, counted};
 
 // The most bytes and the most characters of a text.
@@ -138,7 +123,7 @@ fn within(low: u8, high: u8, byte: u8) -> bool
 
 // The row that has the byte as a lead byte.
 fn row_of(byte: u8) -> LeadFound
-    ensures { λ r. ⌜ r ≡ rowOf leads byte ⌝ }
+    ensures { λ r. ⌜ r ≡ leadRow leads byte ⌝ }
 {
     let rows = LEADS;
     let mut i = 0;

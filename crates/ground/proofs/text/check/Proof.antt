@@ -3,6 +3,7 @@ use Prim.Native.Nat.{ℕ, _≤_}
 use mathlib.Core.Path.{_≡_, ap}
 use mathlib.Core.Bool.{true, false}
 use mathlib.Core.List.{List}
+use mathlib.Core.Option.{orElse}
 use borrow.Author.Needs.{needs}
 use borrow.Author.Tests.{lt-ltb, le-ltb, eq-eqb, ne-eqb}
 use native.Mathlib.Omega.{arith}
@@ -37,7 +38,7 @@ whole c h =
     (omega (arith, c .measure .ensures .1, sizes-within (text c)))
 
 returns : tie.Need-returns
-unfolding checked
+unfolding checked orElse
 returns c = rw (lt-ltb textLimit (length (c .before .before .args .text .now)) (c .if1 .taken))
 
 measure-requires : tie.Need-measure-requires
@@ -47,21 +48,21 @@ cast-t6 : tie.Need-cast-t6
 cast-t6 c = search needs
 
 returns-2 : tie.Need-returns-2
-unfolding checked
+unfolding checked orElse
 returns-2 c =
     let m = c .before .before .before in
     let broken : wellFormed (text m) ≡ false = ne-eqb (sizes (letters (text m))) (length (text m)) (λ e. omega (arith, m .measure .ensures .1)) in
     rw (short m, broken) (ap (λ (place : ℕ). Refused (NotUtf8 place)) (m .measure .ensures .1))
 
 returns-3 : tie.Need-returns-3
-unfolding checked
+unfolding checked orElse
 returns-3 c =
     let m = c .before .before .before .before in
     let many : ltb characterLimit (length (letters (text m))) ≡ true = lt-ltb characterLimit (length (letters (text m))) (omega (arith, m .measure .ensures .0)) in
     rw (short m, whole m (c .before .before .if2 .left), many)
 
 returns-4 : tie.Need-returns-4
-unfolding checked
+unfolding checked orElse
 returns-4 c =
     let m = c .before .before .before .before in
     let few : ltb characterLimit (length (letters (text m))) ≡ false = le-ltb characterLimit (length (letters (text m))) (omega (arith, m .measure .ensures .0)) in

@@ -6,7 +6,7 @@ use borrow.Author.Needs.{needs}
 use native.Mathlib.Omega.{arith}
 use lib.ListN.{length, take, drop, getD}
 use Rattle.ground.specs.Text.{letters}
-use Rattle.ground.specs.Characters.{over}
+use Rattle.ground.specs.Rows.{over}
 use Rattle.ground.specs.Filling.{marks, counted}
 use Rattle.ground.specs.declared.text.Letter.{Letter}
 use Rattle.ground.proofs.RowLaws.{marks-last, counted-over}

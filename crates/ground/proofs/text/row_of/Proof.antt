@@ -7,7 +7,7 @@ use native.Mathlib.Omega.{arith}
 use native.Mathlib.Numerals.{add-one}
 use mathlib.Core.List.{List}
 use lib.ListN.{drop, getD, drop-of-length-le}
-use Rattle.ground.specs.Text.{lead, leads, rowOf}
+use Rattle.ground.specs.Text.{lead, leads, leadRow}
 use Rattle.ground.specs.declared.text.Lead.{Lead}
 use Rattle.ground.specs.declared.text.LeadFound.the-variants.{Row}
 use Rattle.ground.proofs.LeadLaws.{row-here}
@@ -20,7 +20,7 @@ abbrev none : Lead
 none = lead 0 0 0 0 0
 
 abbrev Inv-loop : tie.InvT-loop
-Inv-loop byte rows i₀ i = (i ≤ 9) × (rowOf (drop i leads) byte ≡ rowOf leads byte)
+Inv-loop byte rows i₀ i = (i ≤ 9) × (leadRow (drop i leads) byte ≡ leadRow leads byte)
 
 abbrev μ-loop : tie.MeasureT-loop
 μ-loop byte rows i₀ i = 9 - i
@@ -39,8 +39,8 @@ within-requires c κs = search needs
 
 -- the row at i has the byte, or not
 here : (c : tie.After-within Inv-loop μ-loop) (t : Bool) → c .within .result ≡ t
-    → cond t (Row (getD leads (c .before .before .before .loop .i) none)) (rowOf (drop (suc (c .before .before .before .loop .i)) leads) (c .before .before .before .before .args .byte))
-    ≡ rowOf leads (c .before .before .before .before .args .byte)
+    → cond t (Row (getD leads (c .before .before .before .loop .i) none)) (leadRow (drop (suc (c .before .before .before .loop .i)) leads) (c .before .before .before .before .args .byte))
+    ≡ leadRow leads (c .before .before .before .before .args .byte)
 unfolding leads
 here c t e =
     let l = c .before .before .before in
@@ -59,11 +59,11 @@ loop-less c = omega arith
 loop-again : tie.Need-loop-again Inv-loop μ-loop
 loop-again c =
     let l = c .before .before .before .before in
-    (omega arith, ap (λ (k : ℕ). rowOf (drop k leads) (l .before .args .byte)) (add-one (l .loop .i)) ∙ here (c .before) false (c .if1 .left))
+    (omega arith, ap (λ (k : ℕ). leadRow (drop k leads) (l .before .args .byte)) (add-one (l .loop .i)) ∙ here (c .before) false (c .if1 .left))
 
 returns-2 : tie.Need-returns-2 Inv-loop μ-loop
-unfolding leads rowOf
-returns-2 c = ap (λ (l : List Lead). rowOf l (c .before .before .args .byte)) (sym (drop-of-length-le leads {i = c .before .loop .i} (omega arith))) ∙ c .before .loop .inv .1
+unfolding leads leadRow
+returns-2 c = ap (λ (l : List Lead). leadRow l (c .before .before .args .byte)) (sym (drop-of-length-le leads {i = c .before .loop .i} (omega arith))) ∙ c .before .loop .inv .1
 
 pub row-of-spec : {M : Type 1} → statement M
 row-of-spec =

@@ -5,7 +5,7 @@ use mathlib.Core.List.{List}
 use borrow.Author.Needs.{needs}
 use native.Mathlib.Omega.{arith}
 use lib.ListN.{take, drop, getD, length-drop}
-use Rattle.ground.specs.Text.{leads, rowOf, letterOf, letterAt}
+use Rattle.ground.specs.Text.{leads, leadRow, letterOf, letterAt}
 use Rattle.ground.specs.Filling.{sizeOf}
 use Rattle.ground.specs.declared.text.LeadFound.the-variants.{Row, NoRow}
 use Rattle.ground.proofs.LeadLaws.{row-size}
@@ -16,7 +16,7 @@ use Rattle.ground.proofs.text.size_at.Tie as tie
 abbrev at-row : tie.After-row → tie.Start
 at-row c = c .before .before .before .before .before
 
-row-found : (c : tie.After-row) → rowOf leads (getD (at-row c .args .text .now) (at-row c .args .at) 0) ≡ Row (c .row .given .0 .0)
+row-found : (c : tie.After-row) → leadRow leads (getD (at-row c .args .text .now) (at-row c .args .at) 0) ≡ Row (c .row .given .0 .0)
 row-found c = sym (c .before .before .row-of .ensures) ∙ c .row .given .1
 
 shared-slice-read-row-of : tie.Need-shared-slice-read-row-of
@@ -53,14 +53,14 @@ returns c =
     let bytes = drop (a .at) (a .text .now) in
     c .size-by .ensures
     ∙ ap (λ (l : List ℕ). sizeOf (letterOf (r .row .given .0 .0) (getD l 0 0) (take (r .row .given .0 .0 .size - 1) (drop 1 l)))) (part-rest (a .text .now) (a .at))
-    ∙ sym (ap sizeOf (letter-row bytes (Row (r .row .given .0 .0)) (omega (arith, length-drop (a .at) (a .text .now))) (ap (λ (b : ℕ). rowOf leads b) (part-first (a .text .now) (a .at)) ∙ row-found r)))
+    ∙ sym (ap sizeOf (letter-row bytes (Row (r .row .given .0 .0)) (omega (arith, length-drop (a .at) (a .text .now))) (ap (λ (b : ℕ). leadRow leads b) (part-first (a .text .now) (a .at)) ∙ row-found r)))
 
 returns-2 : tie.Need-returns-2
 returns-2 c =
     let a = c .before .before .before .before .before .args in
     let bytes = drop (a .at) (a .text .now) in
     sym (ap sizeOf (letter-row bytes NoRow (omega (arith, length-drop (a .at) (a .text .now)))
-    (ap (λ (b : ℕ). rowOf leads b) (part-first (a .text .now) (a .at)) ∙ sym (c .before .before .row-of .ensures) ∙ c .enum-told .given .1)))
+    (ap (λ (b : ℕ). leadRow leads b) (part-first (a .text .now) (a .at)) ∙ sym (c .before .before .row-of .ensures) ∙ c .enum-told .given .1)))
 
 pub size-at-spec : {M : Type 1} → statement M
 size-at-spec =
