@@ -71,3 +71,9 @@ charge-none-attained run len = charge-flat len priceLimit run len ∙ rw (le-ltb
 
 pub charge-largest-attained : (run : ℕ) → charge (flat 0 priceLimit) run characterLimit ≡ 134213632
 charge-largest-attained run = charge-most-attained run characterLimit
+
+-- With O below K: two characters that are not kanji only, at K 2, P 3,000, O 1, Q 1,700, are charged 1,700 (docs/DIFFERENCES.md, 1).
+pub charge-below :
+    charge (Decompose (record { «kanji_threshold» = 2; «kanji_price» = 3000; «other_threshold» = 1; «other_price» = 1700 })) 0 2 ≡ 1700
+unfolding charge
+charge-below = refl
