@@ -10,7 +10,6 @@ use lib.ListN.{length, take, drop, getD, length-take, length-drop}
 use lib.Seq.{drop-cons, take-all, getD-drop}
 use borrow.Author.Tests.{eqb-true, eq-eqb, ne-eqb}
 use Rattle.ground.specs.Text.{leads, leadRow, isSecond, isLater, allLater, mayFollow, leadBits, sixBits, letterOf, letterBy, letterAt}
-use Rattle.ground.specs.Filling.{sizeOf}
 use Rattle.ground.specs.declared.text.Lead.{Lead}
 use Rattle.ground.specs.declared.text.LeadFound.{LeadFound}
 use Rattle.ground.specs.declared.text.LeadFound.the-variants.{Row, NoRow}
@@ -78,21 +77,13 @@ letter-size bytes letter e =
     let p = letter-parts bytes letter e in
     (omega (arith, row-size (getD bytes 0 0) (p .row) (p .lead)), p .enough)
 
--- a length above 0 is a character's
-pub sized : (bytes : List ℕ) (n : ℕ) → n ≡ sizeOf (letterAt bytes) → 0 < n → (letter : Letter) × (letterAt bytes ≡ Whole letter) × (letter .size ≡ n)
-sized bytes n q h = go (letterAt bytes) refl q
+-- what is not broken is a character
+pub unbroken : (bytes : List ℕ) → (letterAt bytes ≡ Broken → ⊥) → (letter : Letter) × (letterAt bytes ≡ Whole letter)
+unbroken bytes h = go (letterAt bytes) refl
   where
-    go : (next : Next) → letterAt bytes ≡ next → n ≡ sizeOf next → (letter : Letter) × (letterAt bytes ≡ Whole letter) × (letter .size ≡ n)
-    go Broken e q = absurd (omega arith)
-    go (Whole letter) e q = (letter, e, sym q)
-
--- a length of 0 is none's
-pub unsized : (bytes : List ℕ) → sizeOf (letterAt bytes) ≡ 0 → letterAt bytes ≡ Broken
-unsized bytes h = go (letterAt bytes) refl h
-  where
-    go : (next : Next) → letterAt bytes ≡ next → sizeOf next ≡ 0 → next ≡ Broken
-    go Broken e h = refl
-    go (Whole letter) e h = absurd (omega (arith, letter-size bytes letter e))
+    go : (next : Next) → letterAt bytes ≡ next → (letter : Letter) × (letterAt bytes ≡ Whole letter)
+    go Broken e = absurd (h e)
+    go (Whole letter) e = (letter, e)
 
 -- a part from a place on to the end, its first byte, and one byte at a time
 pub part-rest : (text : List ℕ) (at : ℕ) → take (length text - at) (drop at text) ≡ drop at text

@@ -6,7 +6,6 @@ use native.Mathlib.Omega.{arith}
 use lib.ListN.{length, drop, length-drop, drop-of-length-le}
 use lib.Seq.{drop-drop}
 use Rattle.ground.specs.Text.{letterAt, followedBy, lettersIn, letters, sizes}
-use Rattle.ground.specs.Filling.{sizeOf}
 use Rattle.ground.specs.declared.text.Letter.{Letter}
 use Rattle.ground.specs.declared.text.Next.{Next}
 use Rattle.ground.specs.declared.text.Next.the-variants.{Whole, Broken}
@@ -57,14 +56,10 @@ unfolding letters lettersIn letterAt
 letters-broken [] e = refl
 letters-broken (byte ∷ rest) e = ap (λ (next : Next). followedBy next (λ (size : ℕ). lettersIn (length rest) (drop size (byte ∷ rest)))) e
 
--- where the characters take some bytes, the first of them stands
-pub unbroken : (bytes : List ℕ) → 0 < sizes (letters bytes) → 0 < sizeOf (letterAt bytes)
+-- where the characters take some bytes, the first of them is not broken
+pub not-broken : (bytes : List ℕ) → 0 < sizes (letters bytes) → letterAt bytes ≡ Broken → ⊥
 unfolding sizes
-unbroken bytes h = go (letterAt bytes) refl
-  where
-    go : (next : Next) → letterAt bytes ≡ next → 0 < sizeOf next
-    go Broken e = absurd (omega (arith, ap sizes (letters-broken bytes e)))
-    go (Whole letter) e = omega (arith, letter-size bytes letter e)
+not-broken bytes h e = omega (arith, ap sizes (letters-broken bytes e))
 
 -- ---- how many bytes the characters take
 

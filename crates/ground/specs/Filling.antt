@@ -8,8 +8,6 @@ use lib.Dec.{leb, eqb}
 use Rattle.ground.specs.Limits.{textLimit, characterLimit}
 use Rattle.ground.specs.Text.{within, leadBits, sixBits, letters, sizes, isKanji, runAhead}
 use Rattle.ground.specs.declared.text.Letter.{Letter}
-use Rattle.ground.specs.declared.text.Next.{Next}
-use Rattle.ground.specs.declared.text.Next.the-variants.{Whole, Broken}
 
 -- A text that passed its tests: within both limits, well formed, and of n characters.
 pub record Sound (text : List ℕ) (n : ℕ) : Type 0 where
@@ -17,11 +15,6 @@ pub record Sound (text : List ℕ) (n : ℕ) : Type 0 where
   pub whole : sizes (letters text) ≡ length text
   pub count : n ≡ length (letters text)
   pub few : n ≤ characterLimit
-
--- The length of a character, and 0 where none stands.
-abbrev pub sizeOf : Next → ℕ
-sizeOf Broken = 0
-sizeOf (Whole letter) = letter .size
 
 -- 1 from `low` on, and 0 below.
 abbrev pub from : ℕ → ℕ → ℕ

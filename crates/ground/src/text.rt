@@ -7,7 +7,7 @@ ghost use Rattle.ground.specs.Limits.{textLimit, characterLimit};
 ghost use Rattle.ground.specs.Rows.{over};
 ghost use Rattle.ground.specs.Text.{leads, leadRow, mayFollow, letterOf, letterAt, letters, sizes, offsets, runs, runOf};
 ghost use Rattle.ground.specs.Characters.{checked, table};
-ghost use Rattle.ground.specs.Filling.{Sound, sizeOf, from, sizeByLead, letterOfSize, inBlock, markOf, marked, marks, counted};
+ghost use Rattle.ground.specs.Filling.{Sound, from, sizeByLead, letterOfSize, inBlock, markOf, marked, marks, counted};
 
 // The most bytes and the most characters of a text.
 pub const TEXT_LIMIT: usize = 16_384;
@@ -161,87 +161,6 @@ fn may_follow(row: Lead, bytes: &[u8]) -> bool
     within(LATER_LOW, LATER_HIGH, bytes[3])
 }
 
-// The length of the character that the bytes begin with, or 0. Their first byte is one of the row's lead bytes.
-fn size_by(row: Lead, bytes: &[u8]) -> usize
-    requires { ⌜ (1 ≤ row .size) × (row .size ≤ 4) × (0 < length (now bytes)) ⌝ }
-    ensures { λ r. ⌜ r ≡ sizeOf (letterOf row (getD (now (bytes .entry)) 0 0) (take (row .size - 1) (drop 1 (now (bytes .entry))))) ⌝ }
-{
-    let size = row.size;
-    if bytes.len() < size {
-        return 0;
-    }
-    if !may_follow(row, bytes) {
-        return 0;
-    }
-    size
-}
-
-// The length of the character that stands at a place of the text, or 0.
-fn size_at(text: &[u8], at: usize) -> usize
-    requires { ⌜ at < length (now text) ⌝ }
-    ensures { λ r. ⌜ r ≡ sizeOf (letterAt (drop at (now (text .entry)))) ⌝ }
-{
-    match row_of(text[at]) {
-        LeadFound::Row(row) => size_by(row, &text[at..]),
-        LeadFound::NoRow => 0,
-    }
-}
-
-// How many whole well-formed characters the text begins with, and how many bytes they take.
-pub struct Measured {
-    pub characters: usize,
-    pub bytes: usize,
-}
-
-fn measure(text: &[u8]) -> Measured
-    ensures { λ r. ⌜ (r .characters ≡ length (letters (now (text .entry)))) × (r .bytes ≡ sizes (letters (now (text .entry)))) ⌝ }
-{
-    let mut at = 0;
-    let mut n = 0;
-    while at < text.len() {
-        let size = size_at(text, at);
-        if size == 0 {
-            return Measured {
-                characters: n,
-                bytes: at,
-            };
-        }
-        at += size;
-        n += 1;
-    }
-    Measured {
-        characters: n,
-        bytes: at,
-    }
-}
-
-// What the tests of a text tell.
-pub enum Checked {
-    Passed { characters: usize },
-    Refused(Answer),
-}
-
-// The tests of a text in document 01's order. Nothing is written.
-pub fn check(text: &[u8]) -> Checked
-    ensures { λ r. ⌜ r ≡ checked (now (text .entry)) ⌝ }
-{
-    if TEXT_LIMIT < text.len() {
-        return Checked::Refused(Answer::TooLong);
-    }
-    let m = measure(text);
-    if m.bytes < text.len() {
-        return Checked::Refused(Answer::NotUtf8 {
-            place: m.bytes as u32,
-        });
-    }
-    if CHARACTER_LIMIT < m.characters {
-        return Checked::Refused(Answer::TooLong);
-    }
-    Checked::Passed {
-        characters: m.characters,
-    }
-}
-
 fn wide(x: u8) -> u32
     ensures { λ r. ⌜ r ≡ x ⌝ }
 {
@@ -285,8 +204,88 @@ fn letter_of(bytes: &[u8], size: usize) -> Letter
     }
 }
 
+// The character that the bytes begin with. Their first byte is one of the row's lead bytes.
+fn letter_by(row: Lead, bytes: &[u8]) -> Next
+    requires { ⌜ (1 ≤ row .size) × (row .size ≤ 4) × (0 < length (now bytes)) ⌝ }
+    ensures { λ r. ⌜ r ≡ letterOf row (getD (now (bytes .entry)) 0 0) (take (row .size - 1) (drop 1 (now (bytes .entry)))) ⌝ }
+{
+    let size = row.size;
+    if bytes.len() < size {
+        return Next::Broken;
+    }
+    if !may_follow(row, bytes) {
+        return Next::Broken;
+    }
+    Next::Whole(letter_of(bytes, size))
+}
+
+// The character that stands at a place of the text.
+fn letter_at(text: &[u8], at: usize) -> Next
+    requires { ⌜ at < length (now text) ⌝ }
+    ensures { λ r. ⌜ r ≡ letterAt (drop at (now (text .entry))) ⌝ }
+{
+    match row_of(text[at]) {
+        LeadFound::Row(row) => letter_by(row, &text[at..]),
+        LeadFound::NoRow => Next::Broken,
+    }
+}
+
+// How many whole well-formed characters the text begins with, and how many bytes they take.
+pub struct Measured {
+    pub characters: usize,
+    pub bytes: usize,
+}
+
+fn measure(text: &[u8]) -> Measured
+    ensures { λ r. ⌜ (r .characters ≡ length (letters (now (text .entry)))) × (r .bytes ≡ sizes (letters (now (text .entry)))) ⌝ }
+{
+    let mut at = 0;
+    let mut n = 0;
+    while at < text.len() {
+        let Next::Whole(letter) = letter_at(text, at) else {
+            return Measured {
+                characters: n,
+                bytes: at,
+            };
+        };
+        at += letter.size;
+        n += 1;
+    }
+    Measured {
+        characters: n,
+        bytes: at,
+    }
+}
+
+// What the tests of a text tell.
+pub enum Checked {
+    Passed { characters: usize },
+    Refused(Answer),
+}
+
+// The tests of a text in document 01's order. Nothing is written.
+pub fn check(text: &[u8]) -> Checked
+    ensures { λ r. ⌜ r ≡ checked (now (text .entry)) ⌝ }
+{
+    if TEXT_LIMIT < text.len() {
+        return Checked::Refused(Answer::TooLong);
+    }
+    let m = measure(text);
+    if m.bytes < text.len() {
+        return Checked::Refused(Answer::NotUtf8 {
+            place: m.bytes as u32,
+        });
+    }
+    if CHARACTER_LIMIT < m.characters {
+        return Checked::Refused(Answer::TooLong);
+    }
+    Checked::Passed {
+        characters: m.characters,
+    }
+}
+
 // The character that well-formed bytes begin with, by its lead byte: nothing is tested again.
-fn known_letter(bytes: &[u8]) -> Letter
+fn letter_by_lead(bytes: &[u8]) -> Letter
     requires { ⌜ (0 < length (now bytes)) × (sizeByLead (getD (now bytes) 0 0) ≤ length (now bytes)) ⌝ }
     ensures { λ r. ⌜ r ≡ letterOfSize (now (bytes .entry)) (sizeByLead (getD (now (bytes .entry)) 0 0)) ⌝ }
 {
@@ -304,11 +303,11 @@ fn known_letter(bytes: &[u8]) -> Letter
 }
 
 // The character at a place where one is known to stand.
-fn letter_at(text: &[u8], at: usize) -> Letter
-    requires { ⌜ (at < length (now text)) × (0 < sizeOf (letterAt (drop at (now text)))) ⌝ }
+fn known_letter(text: &[u8], at: usize) -> Letter
+    requires { ⌜ (at < length (now text)) × (letterAt (drop at (now text)) ≡ Next.Broken → ⊥) ⌝ }
     ensures { λ r. ⌜ letterAt (drop at (now (text .entry))) ≡ Next.Whole r ⌝ }
 {
-    known_letter(&text[at..])
+    letter_by_lead(&text[at..])
 }
 
 // 1 from `low` on.
@@ -344,7 +343,7 @@ fn fill_marks(text: &[u8], offset: &mut [u32], run: &mut [u16])
     let mut at = 0;
     let mut i = 0;
     while at < text.len() {
-        let letter = letter_at(text, at);
+        let letter = known_letter(text, at);
         offset[i] = at as u32;
         run[i] = mark_of(letter.code);
         at += letter.size;

@@ -9,7 +9,7 @@ use Rattle.ground.specs.Text.{letters, offsets}
 use Rattle.ground.specs.Filling.{marks}
 use Rattle.ground.proofs.Filled.{Filled, filled-none, filled-more, filled-all}
 use Rattle.ground.proofs.LetterLaws.{letter-ends}
-use Rattle.ground.proofs.TextLaws.{unbroken}
+use Rattle.ground.proofs.TextLaws.{not-broken}
 use Rattle.ground.proofs.RowLaws.{sets-over, offsets-length, marks-length}
 use Rattle.ground.proofs.text.fill_marks.Statement.{statement}
 use Rattle.ground.proofs.text.fill_marks.Tie as tie
@@ -34,10 +34,10 @@ text l = start l .args .text .now
 abbrev rest : tie.At-loop Inv-loop μ-loop → List ℕ
 rest l = drop (l .loop .at) (text l)
 
-letter-at-requires : tie.Need-letter-at-requires Inv-loop μ-loop
-letter-at-requires c κs =
+known-letter-requires : tie.Need-known-letter-requires Inv-loop μ-loop
+known-letter-requires c κs =
     let l = c .before in
-    (omega arith, unbroken (rest l) (omega arith))
+    (omega arith, not-broken (rest l) (omega arith))
 
 cast-offset : tie.Need-cast-offset Inv-loop μ-loop
 cast-offset c = omega arith
@@ -57,9 +57,9 @@ mul-run c = omega arith
 slice-write-run : tie.Need-slice-write-run Inv-loop μ-loop
 slice-write-run c = omega arith
 
-ends : (c : tie.After-letter-at Inv-loop μ-loop)
-    → (1 ≤ c .letter-at .result .size) × (c .before .before .loop .at + c .letter-at .result .size ≤ length (text (c .before .before)))
-ends c = let l = c .before .before in letter-ends (text l) (l .loop .at) (c .letter-at .result) (c .letter-at .ensures) (l .loop .inv .within)
+ends : (c : tie.After-known-letter Inv-loop μ-loop)
+    → (1 ≤ c .known-letter .result .size) × (c .before .before .loop .at + c .known-letter .result .size ≤ length (text (c .before .before)))
+ends c = let l = c .before .before in letter-ends (text l) (l .loop .at) (c .known-letter .result) (c .known-letter .ensures) (l .loop .inv .within)
 
 add-at : tie.Need-add-at Inv-loop μ-loop
 add-at c = omega (arith, ends (c .before .before))
@@ -77,9 +77,9 @@ loop-again c =
     let a = start l .args in
     subst
     (λ (mark : ℕ). Filled (text l) (a .offset .now) (a .run .now) (set (l .loop .offset) (l .loop .i) (l .loop .at))
-    (set (l .loop .run) (l .loop .i) mark) (l .loop .at + w .letter-at .result .size) (l .loop .i + 1))
+    (set (l .loop .run) (l .loop .i) mark) (l .loop .at + w .known-letter .result .size) (l .loop .i + 1))
     (sym (c .before .mark-of .ensures))
-    (filled-more (text l) (a .offset .now) (a .run .now) (l .loop .offset) (l .loop .run) (l .loop .at) (l .loop .i) (w .letter-at .result) (w .letter-at .ensures) (l .loop .inv))
+    (filled-more (text l) (a .offset .now) (a .run .now) (l .loop .offset) (l .loop .run) (l .loop .at) (l .loop .i) (w .known-letter .result) (w .known-letter .ensures) (l .loop .inv))
 
 cast-offset-2 : tie.Need-cast-offset-2 Inv-loop μ-loop
 cast-offset-2 c = omega arith
@@ -119,7 +119,7 @@ fill-marks-spec =
     Inv-loop
     μ-loop
     loop-holds
-    letter-at-requires
+    known-letter-requires
     cast-offset
     mul-offset
     slice-write-offset

@@ -1,71 +1,59 @@
--- The lead byte tells the length. Assumes nothing.
-use Prim.Native.Nat.{ℕ, _≤_, _<_}
-use mathlib.Core.Path.{_≡_, ap, _∙_, sym}
+-- A well-formed character is told by its lead byte. Assumes nothing.
+use Prim.Native.Nat.{ℕ, _≤_}
+use mathlib.Core.Path.{_≡_, refl, ap, _∙_, sym}
+use mathlib.Core.List.{List}
 use borrow.Author.Needs.{needs}
 use native.Mathlib.Omega.{arith}
-use lib.ListN.{getD}
+use lib.ListN.{length, drop, getD, length-drop}
+use Rattle.ground.specs.Text.{letterAt}
 use Rattle.ground.specs.Filling.{sizeByLead, letterOfSize}
-use Rattle.ground.specs.declared.text.Letter.{Letter}
-use Rattle.ground.proofs.LeadLaws.{from-below, from-above}
+use Rattle.ground.specs.declared.text.Next.the-variants.{Whole}
+use Rattle.ground.proofs.LeadLaws.{lead-size}
+use Rattle.ground.proofs.LetterLaws.{letter-parts, unbroken, part-rest}
 use Rattle.ground.proofs.text.known_letter.Statement.{statement}
 use Rattle.ground.proofs.text.known_letter.Tie as tie
 
-abbrev lead : tie.Start → ℕ
-lead s = getD (s .args .bytes .now) 0 0
+abbrev bytes : tie.Start → List ℕ
+bytes s = drop (s .args .at) (s .args .text .now)
 
--- the tests' bounds tell the length
-one : (s : tie.Start) → lead s < 0x80 → sizeByLead (lead s) ≡ 1
-one s h = omega (arith, from-below 0x80 (lead s) h, from-below 0xe0 (lead s) (omega arith), from-below 0xf0 (lead s) (omega arith))
+-- the character that stands there is told by its lead byte
+told : (s : tie.Start) → (letterAt (bytes s) ≡ Whole (letterOfSize (bytes s) (sizeByLead (getD (bytes s) 0 0)))) × (sizeByLead (getD (bytes s) 0 0) ≤ length (bytes s))
+told s =
+    let found = unbroken (bytes s) (s .pre .1) in
+    let p = letter-parts (bytes s) (found .0) (found .1) in
+    let size : found .0 .size ≡ sizeByLead (getD (bytes s) 0 0) = p .size ∙ sym (lead-size (getD (bytes s) 0 0) (p .row) (p .lead)) in (
+      found .1
+          ∙ ap (λ (code : ℕ). Whole (record { size = found .0 .size; code = code })) (p .code)
+          ∙ ap (λ (n : ℕ). Whole (letterOfSize (bytes s) n)) size,
+      omega (arith, p .enough),
+    )
 
-two : (s : tie.Start) → 0x80 ≤ lead s → lead s < 0xe0 → sizeByLead (lead s) ≡ 2
-two s l h = omega (arith, from-above 0x80 (lead s) l, from-below 0xe0 (lead s) h, from-below 0xf0 (lead s) (omega arith))
+sub-letter-by-lead : tie.Need-sub-letter-by-lead
+sub-letter-by-lead c = search needs
 
-three : (s : tie.Start) → 0xe0 ≤ lead s → lead s < 0xf0 → sizeByLead (lead s) ≡ 3
-three s l h = omega (arith, from-above 0x80 (lead s) (omega arith), from-above 0xe0 (lead s) l, from-below 0xf0 (lead s) h)
+part-letter-by-lead-start : tie.Need-part-letter-by-lead-start
+part-letter-by-lead-start c = search needs
 
-four : (s : tie.Start) → 0xf0 ≤ lead s → sizeByLead (lead s) ≡ 4
-four s l = omega (arith, from-above 0x80 (lead s) (omega arith), from-above 0xe0 (lead s) (omega arith), from-above 0xf0 (lead s) l)
+part-letter-by-lead-end : tie.Need-part-letter-by-lead-end
+part-letter-by-lead-end c = search needs
 
-abbrev of-size : tie.Start → ℕ → Letter
-of-size s size = letterOfSize (s .args .bytes .now) size
-
-shared-slice-read-lead : tie.Need-shared-slice-read-lead
-shared-slice-read-lead c = search needs
-
-letter-of-requires : tie.Need-letter-of-requires
-letter-of-requires c κs = search needs
+letter-by-lead-requires : tie.Need-letter-by-lead-requires
+letter-by-lead-requires c κs =
+    let s = c .before .before in
+    rw (part-rest (s .args .text .now) (s .args .at)) (omega (arith, length-drop (s .args .at) (s .args .text .now)), told s .1)
 
 returns : tie.Need-returns
-returns c = let s = c .before .before .before .before in c .letter-of .ensures ∙ ap (of-size s) (sym (one s (c .before .if1 .taken)))
-
-letter-of-requires-2 : tie.Need-letter-of-requires-2
-letter-of-requires-2 c κs = omega (arith, two (c .before .before .before .before) (c .before .if1 .left) (c .if2 .taken))
-
-returns-2 : tie.Need-returns-2
-returns-2 c = let s = c .before .before .before .before .before in c .letter-of2 .ensures ∙ ap (of-size s) (sym (two s (c .before .before .if1 .left) (c .before .if2 .taken)))
-
-letter-of-requires-3 : tie.Need-letter-of-requires-3
-letter-of-requires-3 c κs = omega (arith, three (c .before .before .before .before .before) (c .before .if2 .left) (c .if3 .taken))
-
-returns-3 : tie.Need-returns-3
-returns-3 c = let s = c .before .before .before .before .before .before in c .letter-of3 .ensures ∙ ap (of-size s) (sym (three s (c .before .before .if2 .left) (c .before .if3 .taken)))
-
-letter-of-requires-4 : tie.Need-letter-of-requires-4
-letter-of-requires-4 c κs = omega (arith, four (c .before .before .before .before .before) (c .if3 .left))
-
-returns-4 : tie.Need-returns-4
-returns-4 c = let s = c .before .before .before .before .before .before in c .letter-of4 .ensures ∙ ap (of-size s) (sym (four s (c .before .if3 .left)))
+returns c =
+    let s = c .before .before .before in
+    told s .0
+    ∙ ap Whole (ap (λ (l : List ℕ). letterOfSize l (sizeByLead (getD l 0 0))) (sym (part-rest (s .args .text .now) (s .args .at))) ∙ sym (c .letter-by-lead .ensures))
 
 pub known-letter-spec : {M : Type 1} → statement M
 known-letter-spec =
     tie.close
     (tie.spec
-    shared-slice-read-lead
-    letter-of-requires
-    returns
-    letter-of-requires-2
-    returns-2
-    letter-of-requires-3
-    returns-3
-    letter-of-requires-4
-    returns-4)
+    sub-letter-by-lead
+    part-letter-by-lead-start
+    part-letter-by-lead-end
+    letter-by-lead-requires
+    returns)

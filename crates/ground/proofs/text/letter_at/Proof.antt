@@ -1,59 +1,77 @@
--- A well-formed character is told by its lead byte. Assumes nothing.
-use Prim.Native.Nat.{ℕ, _≤_}
-use mathlib.Core.Path.{_≡_, refl, ap, _∙_, sym}
+-- The row of the first byte decides. Assumes nothing.
+use Prim.Native.Nat.{ℕ, _-_}
+use mathlib.Core.Path.{_≡_, ap, _∙_, sym}
 use mathlib.Core.List.{List}
 use borrow.Author.Needs.{needs}
 use native.Mathlib.Omega.{arith}
-use lib.ListN.{length, drop, getD, length-drop}
-use Rattle.ground.specs.Text.{letterAt}
-use Rattle.ground.specs.Filling.{sizeOf, sizeByLead, letterOfSize}
-use Rattle.ground.specs.declared.text.Next.the-variants.{Whole}
-use Rattle.ground.proofs.LeadLaws.{lead-size}
-use Rattle.ground.proofs.LetterLaws.{letter-parts, sized, part-rest}
+use lib.ListN.{take, drop, getD, length-drop}
+use Rattle.ground.specs.Text.{leads, leadRow, letterOf, letterAt}
+use Rattle.ground.specs.declared.text.LeadFound.the-variants.{Row, NoRow}
+use Rattle.ground.proofs.LeadLaws.{row-size}
+use Rattle.ground.proofs.LetterLaws.{letter-row, part-rest, part-first}
 use Rattle.ground.proofs.text.letter_at.Statement.{statement}
 use Rattle.ground.proofs.text.letter_at.Tie as tie
 
-abbrev bytes : tie.Start → List ℕ
-bytes s = drop (s .args .at) (s .args .text .now)
+abbrev at-row : tie.After-row → tie.Start
+at-row c = c .before .before .before .before .before
 
--- the character that stands there is told by its lead byte
-told : (s : tie.Start) → (letterAt (bytes s) ≡ Whole (letterOfSize (bytes s) (sizeByLead (getD (bytes s) 0 0)))) × (sizeByLead (getD (bytes s) 0 0) ≤ length (bytes s))
-told s =
-    let found = sized (bytes s) (sizeOf (letterAt (bytes s))) refl (s .pre .1) in
-    let p = letter-parts (bytes s) (found .0) (found .1) in
-    let size : found .0 .size ≡ sizeByLead (getD (bytes s) 0 0) = p .size ∙ sym (lead-size (getD (bytes s) 0 0) (p .row) (p .lead)) in (
-      found .1
-          ∙ ap (λ (code : ℕ). Whole (record { size = found .0 .size; code = code })) (p .code)
-          ∙ ap (λ (n : ℕ). Whole (letterOfSize (bytes s) n)) size,
-      omega (arith, p .enough),
-    )
+row-found : (c : tie.After-row) → leadRow leads (getD (at-row c .args .text .now) (at-row c .args .at) 0) ≡ Row (c .row .given .0 .0)
+row-found c = sym (c .before .before .row-of .ensures) ∙ c .row .given .1
 
-sub-known-letter : tie.Need-sub-known-letter
-sub-known-letter c = search needs
+shared-slice-read-row-of : tie.Need-shared-slice-read-row-of
+shared-slice-read-row-of c = search needs
 
-part-known-letter-start : tie.Need-part-known-letter-start
-part-known-letter-start c = search needs
+row-of-requires : tie.Need-row-of-requires
+row-of-requires c κs = search needs
 
-part-known-letter-end : tie.Need-part-known-letter-end
-part-known-letter-end c = search needs
+enum-known-row : tie.Need-enum-known-row
+enum-known-row c = search needs
 
-known-letter-requires : tie.Need-known-letter-requires
-known-letter-requires c κs =
-    let s = c .before .before in
-    rw (part-rest (s .args .text .now) (s .args .at)) (omega (arith, length-drop (s .args .at) (s .args .text .now)), told s .1)
+sub-letter-by : tie.Need-sub-letter-by
+sub-letter-by c = search needs
+
+part-letter-by-start : tie.Need-part-letter-by-start
+part-letter-by-start c = search needs
+
+part-letter-by-end : tie.Need-part-letter-by-end
+part-letter-by-end c = search needs
+
+letter-by-requires : tie.Need-letter-by-requires
+letter-by-requires c κs =
+    let a = at-row (c .before .before) .args in
+    let w = row-size (getD (a .text .now) (a .at) 0) (c .before .before .row .given .0 .0) (row-found (c .before .before)) in
+    (w .0, w .1, rw (part-rest (a .text .now) (a .at)) (omega (arith, length-drop (a .at) (a .text .now))))
+
+enum-told : tie.Need-enum-told
+enum-told c = search needs
 
 returns : tie.Need-returns
 returns c =
-    let s = c .before .before .before in
-    told s .0
-    ∙ ap Whole (ap (λ (l : List ℕ). letterOfSize l (sizeByLead (getD l 0 0))) (sym (part-rest (s .args .text .now) (s .args .at))) ∙ sym (c .known-letter .ensures))
+    let r = c .before .before .before in
+    let a = at-row r .args in
+    let bytes = drop (a .at) (a .text .now) in
+    c .letter-by .ensures
+    ∙ ap (λ (l : List ℕ). (letterOf (r .row .given .0 .0) (getD l 0 0) (take (r .row .given .0 .0 .size - 1) (drop 1 l)))) (part-rest (a .text .now) (a .at))
+    ∙ sym ((letter-row bytes (Row (r .row .given .0 .0)) (omega (arith, length-drop (a .at) (a .text .now))) (ap (λ (b : ℕ). leadRow leads b) (part-first (a .text .now) (a .at)) ∙ row-found r)))
+
+returns-2 : tie.Need-returns-2
+returns-2 c =
+    let a = c .before .before .before .before .before .args in
+    let bytes = drop (a .at) (a .text .now) in
+    sym ((letter-row bytes NoRow (omega (arith, length-drop (a .at) (a .text .now)))
+    (ap (λ (b : ℕ). leadRow leads b) (part-first (a .text .now) (a .at)) ∙ sym (c .before .before .row-of .ensures) ∙ c .enum-told .given .1)))
 
 pub letter-at-spec : {M : Type 1} → statement M
 letter-at-spec =
     tie.close
     (tie.spec
-    sub-known-letter
-    part-known-letter-start
-    part-known-letter-end
-    known-letter-requires
-    returns)
+    shared-slice-read-row-of
+    row-of-requires
+    enum-known-row
+    sub-letter-by
+    part-letter-by-start
+    part-letter-by-end
+    letter-by-requires
+    enum-told
+    returns
+    returns-2)

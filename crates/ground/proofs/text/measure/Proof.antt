@@ -1,11 +1,13 @@
 -- The loop's invariant: what is counted, with the characters of what is left, are the text's. Assumes nothing.
-use Prim.Native.Nat.{ℕ, suc, _+_, _-_, _≤_}
+use Prim.Native.Nat.{ℕ, _+_, _-_, _≤_}
 use mathlib.Core.Path.{_≡_, ap, _∙_, sym}
-use mathlib.Core.List.{List, _∷_}
+use mathlib.Core.List.{List}
+use borrow.Author.Needs.{needs}
 use native.Mathlib.Omega.{arith}
 use lib.ListN.{length, drop}
-use Rattle.ground.specs.Text.{letters, sizes}
-use Rattle.ground.proofs.LetterLaws.{letter-ends, sized, unsized}
+use Rattle.ground.specs.Text.{letterAt, letters, sizes}
+use Rattle.ground.specs.declared.text.Next.the-variants.{Whole}
+use Rattle.ground.proofs.LetterLaws.{letter-ends}
 use Rattle.ground.proofs.TextLaws.{letters-next, letters-end, letters-broken}
 use Rattle.ground.proofs.text.measure.Statement.{statement}
 use Rattle.ground.proofs.text.measure.Tie as tie
@@ -23,65 +25,59 @@ abbrev μ-loop : tie.MeasureT-loop
 loop-holds : tie.Need-loop-holds Inv-loop μ-loop
 loop-holds c = omega arith
 
-size-at-requires : tie.Need-size-at-requires Inv-loop μ-loop
-size-at-requires c κs = omega arith
+letter-at-requires : tie.Need-letter-at-requires Inv-loop μ-loop
+letter-at-requires c κs = omega arith
 
-abbrev at-size : tie.After-size-at Inv-loop μ-loop → tie.At-loop Inv-loop μ-loop
-at-size c = c .before .before
+enum-known-letter : tie.Need-enum-known-letter Inv-loop μ-loop
+enum-known-letter c = search needs
 
-abbrev text : tie.At-loop Inv-loop μ-loop → List ℕ
-text l = l .before .before .args .text .now
-
-abbrev rest : tie.At-loop Inv-loop μ-loop → List ℕ
-rest l = drop (l .loop .at) (text l)
+enum-told : tie.Need-enum-told Inv-loop μ-loop
+enum-told c = search needs
 
 returns : tie.Need-returns Inv-loop μ-loop
 unfolding sizes
 returns c =
-    let l = at-size (c .before) in
-    let none = letters-broken (rest l) (unsized (rest l) (sym (c .before .size-at .ensures) ∙ c .if1 .taken)) in
+    let l = c .before .before .before .before in
+    let text = l .before .before .args .text .now in
+    let none = letters-broken (drop (l .loop .at) text) (sym (c .before .before .letter-at .ensures) ∙ c .enum-told .given .1) in
     omega (arith, ap length none, ap sizes none)
 
--- the character that was found ends within the text, and the characters from there on are one fewer
-record Next (l : tie.At-loop Inv-loop μ-loop) (size : ℕ) : Type 0 where
-  some : 1 ≤ size
-  ends : l .loop .at + size ≤ length (text l)
-  count : length (letters (rest l)) ≡ suc (length (letters (drop (l .loop .at + size) (text l))))
-  bytes : sizes (letters (rest l)) ≡ size + sizes (letters (drop (l .loop .at + size) (text l)))
+abbrev at-letter : tie.After-letter Inv-loop μ-loop → tie.At-loop Inv-loop μ-loop
+at-letter c = c .before .before .before .before
 
-next : (c : tie.Else1 Inv-loop μ-loop) → Next (at-size (c .before)) (c .before .size-at .result)
-unfolding sizes
-next c =
-    let l = at-size (c .before) in
-    let size = c .before .size-at .result in
-    let found = sized (rest l) size (c .before .size-at .ensures) (omega arith) in
-    let more : letters (rest l) ≡ found .0 ∷ letters (drop (l .loop .at + size) (text l)) =
-    letters-next (text l) (l .loop .at) (found .0) (found .1)
-    ∙ ap (λ (n : ℕ). found .0 ∷ letters (drop (l .loop .at + n) (text l))) (found .2) in
-    let w = letter-ends (text l) (l .loop .at) (found .0) (found .1) (l .loop .inv .0) in
-    record {
-      some = omega (arith, found .2);
-      ends = omega (arith, found .2);
-      count = ap length more;
-      bytes = omega (arith, found .2, ap sizes more);
-    }
+abbrev text : tie.At-loop Inv-loop μ-loop → List ℕ
+text l = l .before .before .args .text .now
+
+-- the character that was found
+found : (c : tie.After-letter Inv-loop μ-loop) → letterAt (drop (at-letter c .loop .at) (text (at-letter c))) ≡ Whole (c .letter .given .0 .0)
+found c = sym (c .before .before .letter-at .ensures) ∙ c .letter .given .1
+
+ends : (c : tie.After-letter Inv-loop μ-loop)
+    → (1 ≤ c .letter .given .0 .0 .size) × (at-letter c .loop .at + c .letter .given .0 .0 .size ≤ length (text (at-letter c)))
+ends c = let l = at-letter c in letter-ends (text l) (l .loop .at) (c .letter .given .0 .0) (found c) (l .loop .inv .0)
 
 add-at : tie.Need-add-at Inv-loop μ-loop
-add-at c = let m = next c in omega arith
+add-at c = omega (arith, ends (c .before .before))
 
 add-n : tie.Need-add-n Inv-loop μ-loop
-add-n c = let m = next c in omega arith
+add-n c = omega (arith, ends (c .before .before))
 
 loop-less : tie.Need-loop-less Inv-loop μ-loop
-loop-less c = let m = next c in omega arith
+loop-less c = omega (arith, ends (c .before .before))
 
 loop-again : tie.Need-loop-again Inv-loop μ-loop
-loop-again c = let m = next c in omega arith
+unfolding sizes
+loop-again c =
+    let w = c .before .before in
+    let l = at-letter w in
+    let more = letters-next (text l) (l .loop .at) (w .letter .given .0 .0) (found w) in
+    omega (arith, ends w, ap length more, ap sizes more)
 
 returns-2 : tie.Need-returns-2 Inv-loop μ-loop
 unfolding sizes
 returns-2 c =
-    let none = letters-end (text (c .before)) (c .before .loop .at) (omega arith) in
+    let l = c .before in
+    let none = letters-end (text l) (l .loop .at) (omega arith) in
     omega (arith, ap length none, ap sizes none)
 
 pub measure-spec : {M : Type 1} → statement M
@@ -91,7 +87,9 @@ measure-spec =
     Inv-loop
     μ-loop
     loop-holds
-    size-at-requires
+    letter-at-requires
+    enum-known-letter
+    enum-told
     returns
     add-at
     add-n

@@ -1,4 +1,4 @@
--- `ground::text::size_by` meets its contract: too few bytes, or what stands behind the first of them, decide. Assumes nothing.
+-- `ground::text::letter_by` meets its contract: too few bytes, or what stands behind the first of them, decide. Assumes nothing.
 use Prim.Native.Nat.{ℕ, _-_, min}
 use mathlib.Core.Path.{_≡_, ap, _∙_, sym}
 use mathlib.Core.Bool.{Bool, true, false, cond}
@@ -8,13 +8,12 @@ use borrow.Author.Tests.{not-true, not-false}
 use native.Mathlib.Omega.{arith}
 use lib.ListN.{length, take, drop, getD, length-take, length-drop}
 use Rattle.ground.specs.Text.{leadBits, sixBits, letterOf}
-use Rattle.ground.specs.Filling.{sizeOf}
 use Rattle.ground.specs.declared.text.Next.the-variants.{Whole, Broken}
 use Rattle.ground.proofs.LetterLaws.{too-short, judged}
-use Rattle.ground.proofs.text.size_by.Statement.{statement}
-use Rattle.ground.proofs.text.size_by.Tie as tie
-use Rattle.ground.proofs.text.size_by.Reads as reads
-use Rattle.ground.proofs.text.size_by.Lts as lts
+use Rattle.ground.proofs.text.letter_by.Statement.{statement}
+use Rattle.ground.proofs.text.letter_by.Tie as tie
+use Rattle.ground.proofs.text.letter_by.Reads as reads
+use Rattle.ground.proofs.text.letter_by.Lts as lts
 use Rattle.ground.proofs.text.may_follow.Reads as may-follow-reads
 
 abbrev first : tie.Start → ℕ
@@ -42,18 +41,21 @@ decided c t e =
 returns : tie.Need-returns
 returns c =
     let s = c .before .before in
-    sym (ap sizeOf (too-short (s .args .row) (first s) (following s) (omega (arith, following-length s))))
+    sym ((too-short (s .args .row) (first s) (following s) (omega (arith, following-length s))))
 
 may-follow-requires : tie.Need-may-follow-requires
 may-follow-requires c κs = search needs
 
 returns-2 : tie.Need-returns-2
-returns-2 c = sym (ap sizeOf (decided (c .before) false (not-true (c .before .may-follow .result) (c .if2 .taken))))
+returns-2 c = sym ((decided (c .before) false (not-true (c .before .may-follow .result) (c .if2 .taken))))
+
+letter-of-requires : tie.Need-letter-of-requires
+letter-of-requires c κs = search needs
 
 returns-3 : tie.Need-returns-3
 returns-3 c =
-    let m = c .before in
-    sym (ap sizeOf (decided m true (not-false (m .may-follow .result) (c .if2 .left))))
+    let m = c .before .before in
+    ap Whole (c .letter-of .ensures) ∙ sym (decided m true (not-false (m .may-follow .result) (c .before .if2 .left)))
 
-pub size-by-spec : {M : Type 1} → statement M
-size-by-spec = tie.close (tie.spec returns may-follow-requires returns-2 returns-3)
+pub letter-by-spec : {M : Type 1} → statement M
+letter-by-spec = tie.close (tie.spec returns may-follow-requires returns-2 letter-of-requires returns-3)
