@@ -1,5 +1,5 @@
 -- The tests of a text and the character table's effect: what each outcome of the tests means. Assumes nothing.
-use Prim.Native.Nat.{ℕ, _+_, _≤_, _<_}
+use Prim.Native.Nat.{ℕ, _+_}
 use mathlib.Core.Path.{_≡_, refl, ap, _∙_, sym}
 use mathlib.Core.Bool.{Bool, true, false, not, _||_}
 use mathlib.Core.List.{List, [], _∷_, map}
@@ -29,7 +29,9 @@ passed text n e = go (ltb textLimit (length text)) refl (wellFormed text) refl (
 
     go : (long : Bool) → ltb textLimit (length text) ≡ long → (whole : Bool) → wellFormed text ≡ whole
         → (many : Bool) → ltb characterLimit (length (letters text)) ≡ many
-        → checkedBy (orElse (refuse long TooLong) (orElse (refuse (not whole) (NotUtf8 (sizes (letters text)))) (refuse many TooLong))) (length (letters text)) ≡ Passed n
+        → checkedBy (orElse (refuse long TooLong) (orElse (refuse (not whole) (NotUtf8 (sizes (letters text)))) (refuse many TooLong)))
+        (length (letters text))
+        ≡ Passed n
         → Sound text n
     go true l whole w many m e = absurd (no TooLong e)
     go false l false w many m e = absurd (no (NotUtf8 (sizes (letters text))) e)
@@ -60,12 +62,15 @@ by-tests text offset run outcome e =
 
 -- ---- what a caller may lean on
 
--- neither row changes its length
-pub lengths : (text offset run : List ℕ) → (length (characters text offset run .offset) ≡ length offset) × (length (characters text offset run .run) ≡ length run)
+-- both rows are as long as they came
+abbrev pub Kept : Table → List ℕ → List ℕ → Type 0
+Kept left offset run = (length (left .offset) ≡ length offset) × (length (left .run) ≡ length run)
+
+pub lengths : (text offset run : List ℕ) → Kept (characters text offset run) offset run
 lengths text offset run = go (checked text) refl
   where
     filled : (a b : Bool) → short (length (letters text)) offset ≡ a → short (length (letters text)) run ≡ b
-        → (length (filledUnless (refuse (a || b) ShortRow) text offset run .offset) ≡ length offset) × (length (filledUnless (refuse (a || b) ShortRow) text offset run .run) ≡ length run)
+        → Kept (filledUnless (refuse (a || b) ShortRow) text offset run) offset run
     filled true b p q = (refl, refl)
     filled false true p q = (refl, refl)
     filled false false p q =
@@ -74,20 +79,27 @@ lengths text offset run = go (checked text) refl
           over-length (runs ls) run (omega (arith, runs-length ls, ltb-false (length run) (length ls + 1) q)),
         )
 
-    go : (outcome : Checked) → checked text ≡ outcome → (length (characters text offset run .offset) ≡ length offset) × (length (characters text offset run .run) ≡ length run)
+    go : (outcome : Checked) → checked text ≡ outcome → Kept (characters text offset run) offset run
     go (Refused answer) e = rw (← by-tests text offset run (Refused answer) e) (refl, refl)
     go (Passed k) e =
         rw (← by-tests text offset run (Passed k) e, passed text k e .count)
         (filled (short (length (letters text)) offset) (short (length (letters text)) run) refl refl)
 
--- Document 01's example L, and B's text: ED A0 80 is 1 at place 0, 41 C0 80 is 1 at place 1, F4 8F BF BF is one character; three kanji of three bytes.
-pub example-L :
-    map (λ (text : List ℕ). characters text (replicate 5 7) (replicate 5 7))
-    ((0xed ∷ 0xa0 ∷ 0x80 ∷ []) ∷ (0x41 ∷ 0xc0 ∷ 0x80 ∷ []) ∷ (0xf4 ∷ 0x8f ∷ 0xbf ∷ 0xbf ∷ []) ∷ (0xe6 ∷ 0x9d ∷ 0xb1 ∷ 0xe4 ∷ 0xba ∷ 0xac ∷ 0xe9 ∷ 0x83 ∷ 0xbd ∷ []) ∷ [])
+-- Document 01's example L, and B's text: a surrogate, an overlong form, the last code point, three kanji. The rows hold 7 before.
+examples : List (List ℕ)
+examples =
+    (0xed ∷ 0xa0 ∷ 0x80 ∷ [])
+    ∷ (0x41 ∷ 0xc0 ∷ 0x80 ∷ [])
+    ∷ (0xf4 ∷ 0x8f ∷ 0xbf ∷ 0xbf ∷ [])
+    ∷ (0xe6 ∷ 0x9d ∷ 0xb1 ∷ 0xe4 ∷ 0xba ∷ 0xac ∷ 0xe9 ∷ 0x83 ∷ 0xbd ∷ [])
+    ∷ []
+
+example-L :
+    map (λ (text : List ℕ). characters text (replicate 5 7) (replicate 5 7)) examples
     ≡ table (NotUtf8 0) (7 ∷ 7 ∷ 7 ∷ 7 ∷ 7 ∷ []) (7 ∷ 7 ∷ 7 ∷ 7 ∷ 7 ∷ [])
     ∷ table (NotUtf8 1) (7 ∷ 7 ∷ 7 ∷ 7 ∷ 7 ∷ []) (7 ∷ 7 ∷ 7 ∷ 7 ∷ 7 ∷ [])
     ∷ table (Done 1 (pos 0)) (0 ∷ 4 ∷ 7 ∷ 7 ∷ 7 ∷ []) (0 ∷ 0 ∷ 7 ∷ 7 ∷ 7 ∷ [])
     ∷ table (Done 3 (pos 0)) (0 ∷ 3 ∷ 6 ∷ 9 ∷ 7 ∷ []) (3 ∷ 2 ∷ 1 ∷ 0 ∷ 7 ∷ [])
     ∷ []
-unfolding characters orElse letters lettersIn letterAt leads leadRow allLater sixBits sizes offsetsFrom runs
+unfolding examples characters orElse letters lettersIn letterAt leads leadRow allLater sixBits sizes offsetsFrom runs
 example-L = refl

@@ -1,74 +1,20 @@
 -- The table of lead bytes: its rule is one test that antt computes over all nine rows, and laws that turn it into what holds of the row
 -- that is found. Assumes nothing.
-use Prim.Native.Nat.{ℕ, suc, _+_, _≤_, _<_}
-use mathlib.Core.Path.{_≡_, refl, ap, _∙_, sym}
-use mathlib.Core.Bool.{Bool, true, false, cond, _&&_, _||_, and-false}
+use Prim.Native.Nat.{ℕ, suc, _≤_, _<_}
+use mathlib.Core.Path.{_≡_, refl, ap, _∙_}
+use mathlib.Core.Bool.{Bool, true, false, cond, _&&_}
 use mathlib.Core.List.{List, [], _∷_, List·Memᴰ, List·Memᴰ·not-nil, List·Memᴰ·cases-cons}
 use mathlib.Core.Logic.{⊎-elim}
 use native.Mathlib.Omega.{arith}
 use lib.Dec.{leb, ltb, eqb}
 use lib.ListN.{length, drop, getD}
 use lib.Seq.{drop-cons}
-use borrow.Author.Tests.{leb-true, leb-false, ltb-true, eqb-true, le-leb, lt-leb}
+use borrow.Author.Tests.{leb-true, ltb-true, eqb-true}
 use Rattle.ground.specs.Text.{leads, leadRow, isLead, within}
-use Rattle.ground.specs.Filling.{from, sizeByLead, inBlock}
+use Rattle.ground.specs.Filling.{sizeByLead}
 use Rattle.ground.specs.declared.text.Lead.{Lead}
-use Rattle.ground.specs.declared.text.LeadFound.{LeadFound}
-use Rattle.ground.specs.declared.text.LeadFound.the-variants.{Row, NoRow}
-
--- ---- ranges
-
-pub in-range : (low high x : ℕ) → low ≤ x → x ≤ high → within low high x ≡ true
-in-range low high x l h = rw (le-leb low x l, le-leb x high h)
-
-pub below-range : (low high x : ℕ) → x < low → within low high x ≡ false
-below-range low high x l = rw (lt-leb low x l)
-
-pub above-range : (low high x : ℕ) → high < x → within low high x ≡ false
-above-range low high x h = rw (lt-leb x high h, and-false)
-
-pub from-below : (low x : ℕ) → x < low → from low x ≡ 0
-from-below low x h = rw (lt-leb low x h)
-
-pub from-above : (low x : ℕ) → low ≤ x → from low x ≡ 1
-from-above low x h = rw (le-leb low x h)
-
-from-mono : (low a b : ℕ) → a ≤ b → from low a ≤ from low b
-from-mono low a b h = go (leb low a) refl (leb low b) refl
-  where
-    go : (s : Bool) → leb low a ≡ s → (t : Bool) → leb low b ≡ t → cond s 1 0 ≤ cond t 1 0
-    go false e t f = omega arith
-    go true e true f = omega arith
-    go true e false f = absurd (omega (arith, leb-true low a e, leb-false low b f))
-
--- a block is what is reached from its first on, less what is reached behind its last
-pub block : (low high x : ℕ) → low ≤ high → from low x ≡ inBlock low high x + from (high + 1) x
-block low high x h = go (leb low x) refl (leb x high) refl (leb (high + 1) x) refl
-  where
-    go : (s : Bool) → leb low x ≡ s → (t : Bool) → leb x high ≡ t → (u : Bool) → leb (high + 1) x ≡ u → cond s 1 0 ≡ cond (s && t) 1 0 + cond u 1 0
-    go true e true f false g = omega arith
-    go true e false f true g = omega arith
-    go false e t f false g = omega arith
-    go true e true f true g = absurd (omega (arith, leb-true x high f, leb-true (high + 1) x g))
-    go true e false f false g = absurd (omega (arith, leb-false x high f, leb-false (high + 1) x g))
-    go false e t f true g = absurd (omega (arith, leb-false low x e, leb-true (high + 1) x g))
-
--- two blocks apart: a number lies in one of them, the other, or none
-pub blocks : (low high low′ high′ x : ℕ) → high′ < low → inBlock low high x + inBlock low′ high′ x ≡ cond (within low high x || within low′ high′ x) 1 0
-blocks low high low′ high′ x apart = go (leb low x) refl (leb x high) (leb low′ x) (leb x high′) refl
-  where
-    go : (s : Bool) → leb low x ≡ s → (t : Bool) → (u : Bool) → (v : Bool) → leb x high′ ≡ v → cond (s && t) 1 0 + cond (u && v) 1 0 ≡ cond (s && t || u && v) 1 0
-    go true e true true true f = absurd (omega (arith, leb-true low x e, leb-true x high′ f))
-    go true e true true false f = omega arith
-    go true e true false v f = omega arith
-    go true e false true true f = omega arith
-    go true e false true false f = omega arith
-    go true e false false v f = omega arith
-    go false e t true true f = omega arith
-    go false e t true false f = omega arith
-    go false e t false v f = omega arith
-
--- ---- the table of lead bytes
+use Rattle.ground.specs.declared.text.LeadFound.the-variants.{Row}
+use Rattle.ground.proofs.RangeLaws.{from-mono}
 
 -- a test passes at every row
 abbrev every : (Lead → Bool) → List Lead → Bool
@@ -80,7 +26,8 @@ both true b e = (refl, e)
 both false b e = absurd (mathlib.Core.Bool.false≢true e)
 
 -- what a test says of every row it says of the row that is found
-pub found : (test : Lead → Bool) (rows : List Lead) → every test rows ≡ true → (byte : ℕ) (row : Lead) → leadRow rows byte ≡ Row row → test row ≡ true
+pub found : (test : Lead → Bool) (rows : List Lead) → every test rows ≡ true
+    → (byte : ℕ) (row : Lead) → leadRow rows byte ≡ Row row → test row ≡ true
 unfolding leadRow
 found test [] e byte row f = let z : _≡_ {A = ℕ} 0 1 = cc in absurd (omega arith)
 found test (first ∷ rows) e byte row f = go (isLead first byte) f (found test rows (both (test first) (every test rows) e .1) byte row)
@@ -126,7 +73,9 @@ only [] a byte row m e = absurd (List·Memᴰ·not-nil m)
 only (first ∷ rows) a byte row m e =
     ⊎-elim
     (λ (q : row ≡ first). rw (← q, e))
-    (λ (n : List·Memᴰ row rows). go (isLead first byte) refl (only rows (b .1) byte row n e) (ltb-true (first .high) (row .low) (every-member (λ (later : Lead). ltb (first .high) (later .low)) rows (b .0) row n)))
+    (λ (n : List·Memᴰ row rows).
+    go (isLead first byte) refl (only rows (b .1) byte row n e)
+    (ltb-true (first .high) (row .low) (every-member (λ (later : Lead). ltb (first .high) (later .low)) rows (b .0) row n)))
     (List·Memᴰ·cases-cons m)
   where
     b : (every (λ (later : Lead). ltb (first .high) (later .low)) rows ≡ true) × (apart rows ≡ true)

@@ -1,5 +1,5 @@
 -- One character: what decides it, and how its bits and the bytes behind its lead byte are told one by one. Assumes nothing.
-use Prim.Native.Nat.{ℕ, zero, suc, _+_, _-_, _*_, _%_, _≤_, _<_}
+use Prim.Native.Nat.{ℕ, suc, _+_, _-_, _*_, _%_, _≤_, _<_}
 use mathlib.Core.Path.{_≡_, refl, ap, _∙_, sym}
 use mathlib.Core.Bool.{Bool, true, false, cond, _&&_}
 use mathlib.Core.List.{List, [], _∷_}
@@ -29,7 +29,8 @@ pub judged : (row : Lead) (byte : ℕ) (following : List ℕ) → suc (length fo
 judged row byte following e t m = rw (eq-eqb (suc (length following)) (row .size) e, m)
 
 -- the row of the first byte decides
-pub letter-row : (bytes : List ℕ) (found : LeadFound) → 0 < length bytes → leadRow leads (getD bytes 0 0) ≡ found → letterAt bytes ≡ letterBy found (getD bytes 0 0) (drop 1 bytes)
+pub letter-row : (bytes : List ℕ) (found : LeadFound) → 0 < length bytes → leadRow leads (getD bytes 0 0) ≡ found
+    → letterAt bytes ≡ letterBy found (getD bytes 0 0) (drop 1 bytes)
 unfolding letterAt
 letter-row [] found h e = absurd (omega arith)
 letter-row (byte ∷ rest) found h e = ap (λ (f : LeadFound). letterBy f byte rest) e
@@ -47,7 +48,8 @@ unfolding letterAt
 letter-parts [] letter e = let z : _≡_ {A = ℕ} 0 1 = cc in absurd (omega arith)
 letter-parts (byte ∷ rest) letter e = go (leadRow leads byte) refl e
   where
-    made : (row : Lead) → leadRow leads byte ≡ Row row → (following : List ℕ) → following ≡ take (row .size - 1) rest → (t : Bool) → eqb (suc (length following)) (row .size) ≡ t
+    made : (row : Lead) → leadRow leads byte ≡ Row row → (following : List ℕ) → following ≡ take (row .size - 1) rest
+        → (t : Bool) → eqb (suc (length following)) (row .size) ≡ t
         → (m : Bool) → cond (t && m) (Whole (record { size = row .size; code = sixBits (leadBits (length following) byte) following })) Broken ≡ Whole letter
         → Parts (byte ∷ rest) letter
     made row f following l true t true w =

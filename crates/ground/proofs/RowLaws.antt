@@ -1,16 +1,15 @@
 -- The two rows of the character table: their lengths, and the runs counted from the right. Assumes nothing.
-use Prim.Native.Nat.{ℕ, zero, suc, _+_, _-_, _≤_, _<_}
-use mathlib.Core.Path.{_≡_, refl, ap, _∙_, sym, subst}
+use Prim.Native.Nat.{ℕ, suc, _+_, _≤_, _<_}
+use mathlib.Core.Path.{_≡_, refl, ap, _∙_, sym}
 use mathlib.Core.Bool.{Bool, true, false, cond}
 use mathlib.Core.List.{List, [], _∷_, _++_}
 use native.Mathlib.Omega.{arith}
 use native.Mathlib.Nat.{zero-add}
-use native.Mathlib.Numerals.{add-one}
 use lib.ListN.{length, take, drop, getD, set, take-append-drop, length-append, length-take, length-drop, drop-of-length-le}
-use lib.Seq.{sets, sets-eq, take-suc, drop-cons, append-snoc, getD-at, getD-append-add, getD-take, set-at, length-take-le, getD-set-same}
+use lib.Seq.{sets, sets-eq, take-suc, drop-cons, append-snoc, getD-at, getD-append-add, getD-take, set-at, length-take-le}
 use Rattle.ground.specs.Text.{isKanji, runOf, runAhead, runs, offsetsFrom}
 use Rattle.ground.specs.Rows.{over}
-use Rattle.ground.specs.Filling.{markOf, marked, marks, counted}
+use Rattle.ground.specs.Filling.{marked, marks, counted}
 use Rattle.ground.specs.declared.text.Letter.{Letter}
 
 -- ---- lengths

@@ -21,7 +21,8 @@ enough (suc most) zero [] h k = refl
 enough (suc most) zero (byte ∷ rest) h k = absurd (omega arith)
 enough (suc most) (suc more) bytes h k = go (letterAt bytes) refl (enough most more)
   where
-    go : (next : Next) → letterAt bytes ≡ next → ((less : List ℕ) → length less ≤ most → length less ≤ more → lettersIn most less ≡ lettersIn more less)
+    go : (next : Next) → letterAt bytes ≡ next
+        → ((less : List ℕ) → length less ≤ most → length less ≤ more → lettersIn most less ≡ lettersIn more less)
         → followedBy next (λ (size : ℕ). lettersIn most (drop size bytes)) ≡ followedBy next (λ (size : ℕ). lettersIn more (drop size bytes))
     go Broken e again = refl
     go (Whole letter) e again =
@@ -61,30 +62,13 @@ pub not-broken : (bytes : List ℕ) → 0 < sizes (letters bytes) → letterAt b
 unfolding sizes
 not-broken bytes h e = omega (arith, ap sizes (letters-broken bytes e))
 
--- ---- how many bytes the characters take
-
--- no more than there are, and at least one each
-pub sizes-most : (most : ℕ) (bytes : List ℕ) → length bytes ≤ most → sizes (letters bytes) ≤ length bytes
-unfolding sizes
-sizes-most zero bytes h = rw (letters-end bytes 0 (omega arith)) (omega arith)
-sizes-most (suc most) bytes h = go (letterAt bytes) refl (sizes-most most)
-  where
-    go : (next : Next) → letterAt bytes ≡ next → ((less : List ℕ) → length less ≤ most → sizes (letters less) ≤ length less) → sizes (letters bytes) ≤ length bytes
-    go Broken e again = rw (letters-broken bytes e) (omega arith)
-    go (Whole letter) e again =
-        let s = letter-size bytes letter e in
-        let more = again (drop (letter .size) bytes) (omega (arith, length-drop (letter .size) bytes)) in
-        rw (letters-whole bytes letter e) (omega (arith, length-drop (letter .size) bytes))
-
-pub sizes-within : (bytes : List ℕ) → sizes (letters bytes) ≤ length bytes
-sizes-within bytes = sizes-most (length bytes) bytes (omega arith)
-
 -- ---- the longest run
 
 -- Whole well-formed characters, one after the other, from the bytes' start.
 pub data Run : List ℕ → List Letter → Type 0 where
   none : {bytes : List ℕ} → Run bytes []
-  one : {bytes : List ℕ} {letter : Letter} {more : List Letter} → letterAt bytes ≡ Whole letter → Run (drop (letter .size) bytes) more → Run bytes (letter ∷ more)
+  one : {bytes : List ℕ} {letter : Letter} {more : List Letter} → letterAt bytes ≡ Whole letter
+      → Run (drop (letter .size) bytes) more → Run bytes (letter ∷ more)
 
 -- The characters of a text are such a run ..
 run-most : (most : ℕ) (bytes : List ℕ) → length bytes ≤ most → Run bytes (letters bytes)
@@ -105,3 +89,15 @@ pub longest : {bytes : List ℕ} {run : List Letter} → Run bytes run → sizes
 unfolding sizes
 longest none = omega arith
 longest {bytes} (one {letter = letter} e r) = let h = longest r in rw (letters-whole bytes letter e) (omega arith)
+
+-- A run takes no more bytes than there are.
+run-within : {bytes : List ℕ} {run : List Letter} → Run bytes run → sizes run ≤ length bytes
+unfolding sizes
+run-within none = omega arith
+run-within {bytes} (one {letter = letter} e r) =
+    let s = letter-size bytes letter e in
+    let h = run-within r in
+    omega (arith, length-drop (letter .size) bytes)
+
+pub sizes-within : (bytes : List ℕ) → sizes (letters bytes) ≤ length bytes
+sizes-within bytes = run-within (letters-run bytes)

@@ -1,4 +1,4 @@
--- `ground::text::characters` meets its contract: the tests of the text, then the rows' lengths, then the filling. Assumes nothing.
+-- The tests of the text, then the rows' lengths, then the filling. Assumes nothing.
 use Prim.Native.Nat.{ℕ, _+_}
 use mathlib.Core.Path.{_≡_, refl, ap, ap₂, _∙_, sym}
 use mathlib.Core.Bool.{Bool, true, false, _||_}
@@ -16,10 +16,6 @@ use Rattle.ground.specs.declared.text.Checked.the-variants.{Passed, Refu
 use Rattle.ground.proofs.CharacterLaws.{passed, by-tests}
 use Rattle.ground.proofs.text.characters.Statement.{statement}
 use Rattle.ground.proofs.text.characters.Tie as tie
-use Rattle.ground.proofs.text.characters.Reads as reads
-use Rattle.ground.proofs.text.characters.Lts as lts
-use Rattle.ground.proofs.text.check.Reads as check-reads
-use Rattle.ground.proofs.text.fill.Reads as fill-reads
 
 abbrev at-check : tie.After-check → tie.Start
 at-check c = c .before .before .before .before

@@ -1,4 +1,4 @@
--- `ground::text::check` meets its contract, test by test. Assumes nothing.
+-- Test by test. Assumes nothing.
 use Prim.Native.Nat.{ℕ, _≤_}
 use mathlib.Core.Path.{_≡_, ap}
 use mathlib.Core.Bool.{true, false}
@@ -17,9 +17,6 @@ use Rattle.ground.specs.declared.text.Checked.the-variants.{Passed, Refu
 use Rattle.ground.proofs.TextLaws.{sizes-within}
 use Rattle.ground.proofs.text.check.Statement.{statement}
 use Rattle.ground.proofs.text.check.Tie as tie
-use Rattle.ground.proofs.text.check.Reads as reads
-use Rattle.ground.proofs.text.check.Lts as lts
-use Rattle.ground.proofs.text.measure.Reads as measure-reads
 
 abbrev at-measure : tie.After-measure → tie.Start
 at-measure c = c .before .before .before

@@ -1,4 +1,4 @@
--- `ground::text::code_of` meets its contract: the bits are taken byte by byte. Assumes nothing.
+-- The bits are taken byte by byte. Assumes nothing.
 use Prim.Native.Nat.{ℕ, _+_, _-_, _*_, _%_}
 use mathlib.Core.Path.{_≡_, ap, _∙_}
 use borrow.Author.Needs.{needs}
@@ -8,10 +8,6 @@ use Rattle.ground.proofs.LetterLaws.{six-next}
 use Rattle.ground.specs.Text.{sixBits, leadBits}
 use Rattle.ground.proofs.text.code_of.Statement.{statement}
 use Rattle.ground.proofs.text.code_of.Tie as tie
-use Rattle.ground.proofs.text.code_of.Reads as reads
-use Rattle.ground.proofs.text.code_of.Lts as lts
-use Rattle.ground.proofs.text.wide.Reads as wide-reads
-use Rattle.ground.proofs.text.with_six.Reads as with-six-reads
 
 shared-slice-read-wide : tie.Need-shared-slice-read-wide
 shared-slice-read-wide c = search needs

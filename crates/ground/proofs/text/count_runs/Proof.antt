@@ -1,20 +1,15 @@
--- `ground::text::count_runs` meets its contract. The loop's invariant: the places from i on are counted, and those before i are as they came.
+-- The loop's invariant: the places from i on are counted, and those before i are as they came.
 -- A run is no longer than the places that are left, so it fits. Assumes nothing.
-use Prim.Native.Nat.{ℕ, suc, _+_, _-_, _≤_, _<_}
+use Prim.Native.Nat.{ℕ, suc, _+_, _-_, _≤_}
 use mathlib.Core.Path.{_≡_, refl, ap, _∙_, subst}
-use mathlib.Core.List.{List, _++_}
-use borrow.Author.Needs.{needs}
+use mathlib.Core.List.{_++_}
 use native.Mathlib.Omega.{arith}
-use lib.ListN.{length, take, drop, getD, set, length-set}
+use lib.ListN.{length, take, getD, set, length-set}
 use lib.Seq.{getD-set-same}
-use Rattle.ground.specs.Text.{runOf}
 use Rattle.ground.specs.Filling.{marked, counted}
 use Rattle.ground.proofs.RowLaws.{behind, counted-none, counted-more, run-most}
 use Rattle.ground.proofs.text.count_runs.Statement.{statement}
 use Rattle.ground.proofs.text.count_runs.Tie as tie
-use Rattle.ground.proofs.text.count_runs.Reads as reads
-use Rattle.ground.proofs.text.count_runs.Lts as lts
-use Rattle.ground.proofs.text.run_of.Reads as run-of-reads
 
 abbrev Inv-loop : tie.InvT-loop
 Inv-loop run₀ n i₀ run i =

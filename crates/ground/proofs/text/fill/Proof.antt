@@ -1,4 +1,4 @@
--- `ground::text::fill` meets its contract: the marks, counted, are the runs. Assumes nothing.
+-- The marks, counted, are the runs. Assumes nothing.
 use Prim.Native.Nat.{ℕ}
 use mathlib.Core.Path.{_≡_, ap, _∙_}
 use mathlib.Core.List.{List}
@@ -12,10 +12,6 @@ use Rattle.ground.specs.declared.text.Letter.{Letter}
 use Rattle.ground.proofs.RowLaws.{marks-last, counted-over}
 use Rattle.ground.proofs.text.fill.Statement.{statement}
 use Rattle.ground.proofs.text.fill.Tie as tie
-use Rattle.ground.proofs.text.fill.Reads as reads
-use Rattle.ground.proofs.text.fill.Lts as lts
-use Rattle.ground.proofs.text.count_runs.Reads as count-runs-reads
-use Rattle.ground.proofs.text.fill_marks.Reads as fill-marks-reads
 
 abbrev at-marks : tie.After-fill-marks → tie.Start
 at-marks c = c .before .before .before .before .before .before

@@ -1,7 +1,7 @@
 -- A block is what is reached from its first on, less what is reached behind its last. Assumes nothing.
 use borrow.Author.Needs.{needs}
 use native.Mathlib.Omega.{arith}
-use Rattle.ground.proofs.LeadLaws.{block}
+use Rattle.ground.proofs.RangeLaws.{block}
 use Rattle.ground.proofs.text.in_block.Statement.{statement}
 use Rattle.ground.proofs.text.in_block.Tie as tie
 

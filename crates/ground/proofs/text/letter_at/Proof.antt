@@ -5,7 +5,7 @@ use mathlib.Core.List.{List}
 use borrow.Author.Needs.{needs}
 use native.Mathlib.Omega.{arith}
 use lib.ListN.{take, drop, getD, length-drop}
-use Rattle.ground.specs.Text.{leads, leadRow, letterOf, letterAt}
+use Rattle.ground.specs.Text.{leads, leadRow, letterOf}
 use Rattle.ground.specs.declared.text.LeadFound.the-variants.{Row, NoRow}
 use Rattle.ground.proofs.LeadLaws.{row-size}
 use Rattle.ground.proofs.LetterLaws.{letter-row, part-rest, part-first}

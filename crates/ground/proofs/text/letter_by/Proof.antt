@@ -1,4 +1,4 @@
--- `ground::text::letter_by` meets its contract: too few bytes, or what stands behind the first of them, decide. Assumes nothing.
+-- Too few bytes, or what stands behind the first of them, decide. Assumes nothing.
 use Prim.Native.Nat.{ℕ, _-_, min}
 use mathlib.Core.Path.{_≡_, ap, _∙_, sym}
 use mathlib.Core.Bool.{Bool, true, false, cond}
@@ -12,9 +12,6 @@ use Rattle.ground.specs.declared.text.Next.the-variants.{Whole, Broken}
 use Rattle.ground.proofs.LetterLaws.{too-short, judged}
 use Rattle.ground.proofs.text.letter_by.Statement.{statement}
 use Rattle.ground.proofs.text.letter_by.Tie as tie
-use Rattle.ground.proofs.text.letter_by.Reads as reads
-use Rattle.ground.proofs.text.letter_by.Lts as lts
-use Rattle.ground.proofs.text.may_follow.Reads as may-follow-reads
 
 abbrev first : tie.Start → ℕ
 first s = getD (s .args .bytes .now) 0 0

@@ -6,7 +6,7 @@ use native.Mathlib.Omega.{arith}
 use lib.ListN.{getD}
 use Rattle.ground.specs.Filling.{sizeByLead, letterOfSize}
 use Rattle.ground.specs.declared.text.Letter.{Letter}
-use Rattle.ground.proofs.LeadLaws.{from-below, from-above}
+use Rattle.ground.proofs.RangeLaws.{from-below, from-above}
 use Rattle.ground.proofs.text.letter_by_lead.Statement.{statement}
 use Rattle.ground.proofs.text.letter_by_lead.Tie as tie
 

@@ -3,7 +3,7 @@ use Prim.Native.Nat.{_+_}
 use mathlib.Core.Path.{ap₂, _∙_}
 use borrow.Author.Needs.{needs}
 use native.Mathlib.Omega.{arith}
-use Rattle.ground.proofs.LeadLaws.{blocks}
+use Rattle.ground.proofs.RangeLaws.{blocks}
 use Rattle.ground.proofs.text.mark_of.Statement.{statement}
 use Rattle.ground.proofs.text.mark_of.Tie as tie
 

@@ -1,4 +1,4 @@
--- `ground::text::may_follow` meets its contract: what may follow is told byte by byte. Assumes nothing.
+-- What may follow is told byte by byte. Assumes nothing.
 use Prim.Native.Nat.{ℕ, suc, _-_}
 use mathlib.Core.Path.{_≡_, _∙_, sym}
 use mathlib.Core.Bool.{Bool, true, false, _&&_, and-true}
@@ -11,9 +11,6 @@ use Rattle.ground.specs.Text.{mayFollow, allLater}
 use Rattle.ground.proofs.LetterLaws.{follow-second, follow-later}
 use Rattle.ground.proofs.text.may_follow.Statement.{statement}
 use Rattle.ground.proofs.text.may_follow.Tie as tie
-use Rattle.ground.proofs.text.may_follow.Reads as reads
-use Rattle.ground.proofs.text.may_follow.Lts as lts
-use Rattle.ground.proofs.text.within.Reads as within-reads
 
 abbrev at-second : tie.After-within → tie.Start
 at-second c = c .before .before .before .before

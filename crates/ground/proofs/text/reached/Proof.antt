@@ -1,7 +1,7 @@
 -- By the test. Assumes nothing.
 use mathlib.Core.Path.{sym}
 use native.Mathlib.Omega.{arith}
-use Rattle.ground.proofs.LeadLaws.{from-below, from-above}
+use Rattle.ground.proofs.RangeLaws.{from-below, from-above}
 use Rattle.ground.proofs.text.reached.Statement.{statement}
 use Rattle.ground.proofs.text.reached.Tie as tie
 

@@ -1,4 +1,4 @@
--- `ground::text::row_of` meets its contract. The loop's invariant: the rows from i on find what the whole table finds. Assumes nothing.
+-- The loop's invariant: the rows from i on find what the whole table finds. Assumes nothing.
 use Prim.Native.Nat.{ℕ, suc, _≤_, _-_}
 use mathlib.Core.Path.{_≡_, refl, ap, _∙_, sym}
 use mathlib.Core.Bool.{Bool, true, false, cond}
@@ -13,8 +13,6 @@ use Rattle.ground.specs.declared.text.LeadFound.the-variants.{Row}
 use Rattle.ground.proofs.LeadLaws.{row-here}
 use Rattle.ground.proofs.text.row_of.Statement.{statement}
 use Rattle.ground.proofs.text.row_of.Tie as tie
-use Rattle.ground.proofs.text.row_of.Reads as reads
-use Rattle.ground.proofs.text.row_of.Lts as lts
 
 abbrev none : Lead
 none = lead 0 0 0 0 0

@@ -1,10 +1,8 @@
--- `ground::text::run_of` meets its contract, by the test. Assumes nothing.
+-- By the test. Assumes nothing.
 use borrow.Author.Needs.{needs}
 use borrow.Author.Tests.{eq-eqb, ne-eqb}
 use Rattle.ground.proofs.text.run_of.Statement.{statement}
 use Rattle.ground.proofs.text.run_of.Tie as tie
-use Rattle.ground.proofs.text.run_of.Reads as reads
-use Rattle.ground.proofs.text.run_of.Lts as lts
 
 add-result : tie.Need-add-result
 add-result c = search needs

@@ -1,8 +1,8 @@
--- `ground::text::within` meets its contract, by the test. Assumes nothing.
+-- By the test. Assumes nothing.
 use mathlib.Core.Path.{sym}
 use mathlib.Core.Bool.{and-true}
 use borrow.Author.Tests.{le-leb}
-use Rattle.ground.proofs.LeadLaws.{above-range}
+use Rattle.ground.proofs.RangeLaws.{above-range}
 use Rattle.ground.proofs.text.within.Statement.{statement}
 use Rattle.ground.proofs.text.within.Tie as tie
 
