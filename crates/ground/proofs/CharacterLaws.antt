@@ -11,7 +11,7 @@ use lib.Dec.{ltb}
 use borrow.Author.Tests.{ltb-false, eqb-true}
 use Rattle.ground.specs.Limits.{textLimit, characterLimit}
 use Rattle.ground.specs.Text.{leads, leadRow, allLater, sixBits, letterAt, lettersIn, letters, sizes, wellFormed, offsetsFrom, offsets, runs}
-use Rattle.ground.specs.Characters.{refuse, textRefused, checkedBy, checked, Table, table, short, filledUnless, characters}
+use Rattle.ground.specs.Characters.{refuse, textRefused, checkedBy, checked, Outcome, outcome, short, filledUnless, characters}
 use Rattle.ground.specs.Filling.{Sound}
 use Rattle.ground.specs.declared.answer.Answer.{Answer}
 use Rattle.ground.specs.declared.answer.Answer.the-variants.{Done, TooLong, NotUtf8, ShortRow}
@@ -46,8 +46,8 @@ passed text n e = go (ltb textLimit (length text)) refl (wellFormed text) refl (
         }
 
 -- the table's effect by the outcome of the tests: the answer and unchanged rows, or the test of the rows and then the filling
-abbrev pub effect : Checked → List ℕ → List ℕ → List ℕ → Table
-effect (Refused answer) text offset run = table answer offset run
+abbrev pub effect : Checked → List ℕ → List ℕ → List ℕ → Outcome
+effect (Refused answer) text offset run = outcome answer offset run
 effect (Passed n) text offset run = filledUnless (refuse (short n offset || short n run) ShortRow) text offset run
 
 pub by-tests : (text offset run : List ℕ) (outcome : Checked) → checked text ≡ outcome → effect outcome text offset run ≡ characters text offset run
@@ -63,7 +63,7 @@ by-tests text offset run outcome e =
 -- ---- what a caller may lean on
 
 -- both rows are as long as they came
-abbrev pub Kept : Table → List ℕ → List ℕ → Type 0
+abbrev pub Kept : Outcome → List ℕ → List ℕ → Type 0
 Kept left offset run = (length (left .offset) ≡ length offset) × (length (left .run) ≡ length run)
 
 pub lengths : (text offset run : List ℕ) → Kept (characters text offset run) offset run
@@ -96,10 +96,10 @@ examples =
 
 example-L :
     map (λ (text : List ℕ). characters text (replicate 5 7) (replicate 5 7)) examples
-    ≡ table (NotUtf8 0) (7 ∷ 7 ∷ 7 ∷ 7 ∷ 7 ∷ []) (7 ∷ 7 ∷ 7 ∷ 7 ∷ 7 ∷ [])
-    ∷ table (NotUtf8 1) (7 ∷ 7 ∷ 7 ∷ 7 ∷ 7 ∷ []) (7 ∷ 7 ∷ 7 ∷ 7 ∷ 7 ∷ [])
-    ∷ table (Done 1 (pos 0)) (0 ∷ 4 ∷ 7 ∷ 7 ∷ 7 ∷ []) (0 ∷ 0 ∷ 7 ∷ 7 ∷ 7 ∷ [])
-    ∷ table (Done 3 (pos 0)) (0 ∷ 3 ∷ 6 ∷ 9 ∷ 7 ∷ []) (3 ∷ 2 ∷ 1 ∷ 0 ∷ 7 ∷ [])
+    ≡ outcome (NotUtf8 0) (7 ∷ 7 ∷ 7 ∷ 7 ∷ 7 ∷ []) (7 ∷ 7 ∷ 7 ∷ 7 ∷ 7 ∷ [])
+    ∷ outcome (NotUtf8 1) (7 ∷ 7 ∷ 7 ∷ 7 ∷ 7 ∷ []) (7 ∷ 7 ∷ 7 ∷ 7 ∷ 7 ∷ [])
+    ∷ outcome (Done 1 (pos 0)) (0 ∷ 4 ∷ 7 ∷ 7 ∷ 7 ∷ []) (0 ∷ 0 ∷ 7 ∷ 7 ∷ 7 ∷ [])
+    ∷ outcome (Done 3 (pos 0)) (0 ∷ 3 ∷ 6 ∷ 9 ∷ 7 ∷ []) (3 ∷ 2 ∷ 1 ∷ 0 ∷ 7 ∷ [])
     ∷ []
 unfolding examples characters orElse letters lettersIn letterAt leads leadRow allLater sixBits sizes offsetsFrom runs
 example-L = refl

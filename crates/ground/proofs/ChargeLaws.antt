@@ -7,7 +7,7 @@ use native.Mathlib.Nat.{mul-le-mul}
 use borrow.Author.Tests.{ltb-false, le-ltb, le-leb}
 use lib.Dec.{ltb}
 use Rattle.ground.specs.Limits.{characterLimit, priceLimit}
-use Rattle.ground.specs.Charge.{charge, above, kanjiOnly, Priced}
+use Rattle.ground.specs.Charge.{charge, above, kanjiOnly, PricesFit}
 use Rattle.ground.specs.declared.charge.Mode.{Mode}
 use Rattle.ground.specs.declared.charge.Mode.the-variants.{Normal, Decompose}
 
@@ -32,7 +32,7 @@ above-most : (len threshold price : ℕ) → price ≤ priceLimit → above len 
 above-most len threshold price h =
     either (λ (n : ℕ). n ≤ len * priceLimit) (ltb threshold len) (mul-le-mul {n₁ = len - threshold} (omega arith) h) (omega arith)
 
-pub charge-most : (m : Mode) (run len : ℕ) → Priced m → charge m run len ≤ len * priceLimit
+pub charge-most : (m : Mode) (run len : ℕ) → PricesFit m → charge m run len ≤ len * priceLimit
 unfolding charge
 charge-most Normal run len h = omega arith
 charge-most (Decompose p) run len h =
@@ -41,7 +41,7 @@ charge-most (Decompose p) run len h =
     (above-most len (p .«other_threshold») (p .«other_price») (h .1))
 
 -- Of at most 4,096 characters: 134,213,632.
-pub charge-largest : (m : Mode) (run len : ℕ) → Priced m → len ≤ characterLimit → charge m run len ≤ 134213632
+pub charge-largest : (m : Mode) (run len : ℕ) → PricesFit m → len ≤ characterLimit → charge m run len ≤ 134213632
 charge-largest m run len p h = omega (arith, charge-most m run len p)
 
 -- A mode with one threshold and one price for both kinds of words.
@@ -56,7 +56,7 @@ charge-flat threshold price run len =
 
 -- With the largest price it may be used, and both ends are attained, whatever the run: at threshold 0 every character is paid for, and at
 -- a threshold of the word's own length none is.
-pub flat-priced : (threshold : ℕ) → Priced (flat threshold priceLimit)
+pub flat-priced : (threshold : ℕ) → PricesFit (flat threshold priceLimit)
 flat-priced threshold = omega arith
 
 pub charge-most-attained : (run len : ℕ) → charge (flat 0 priceLimit) run len ≡ len * priceLimit

@@ -1,14 +1,16 @@
 -- What the lattice may lean on about word entries: the fields are in range, and document 01's example I. Assumes nothing.
-use Prim.Native.Nat.{ℕ, zero, suc, _+_, _*_, _<_, _^_}
-use mathlib.Core.Path.{_≡_, refl}
+use Prim.Native.Nat.{ℕ, zero, suc, _+_, _*_, _≤_, _<_, _^_}
+use mathlib.Core.Path.{_≡_, refl, _∙_}
 use mathlib.Core.List.{List, [], _∷_, map}
 use native.Mathlib.Omega.{arith}
-use lib.ListN.{take, drop, getD}
+use native.Mathlib.Nat.{mul-comm}
+use lib.ListN.{length, take, drop, getD}
 use lib.Seq.{getD-drop}
 use lib.IntN.{ℤ, pos, negsuc}
 use lib.Signed.{mag}
 use Rattle.ground.specs.declared.entry.Entry.{Entry}
 use Rattle.ground.specs.Entry.{u16At, entryOf, entryBytes, entryPart, entryAt}
+use Rattle.ground.proofs.RowLaws.{part-fits}
 use Rattle.ground.proofs.SignedLaws.{signed16-small}
 
 -- Every element is a byte.
@@ -26,8 +28,8 @@ take-bytes (suc n) (b ∷ bytes) small (suc i) = take-bytes n bytes (λ j. small
 pub record InRange (entry : Entry) : Type 0 where
   pub id-fits : entry .id < 2 ^ 32
   pub cost-fits : mag (entry .cost) < 2 ^ 15
-  pub left-id-fits : entry .«left_id» < 65536
-  pub right-id-fits : entry .«right_id» < 65536
+  pub left-id-fits : entry .«left_id» < 2 ^ 16
+  pub right-id-fits : entry .«right_id» < 2 ^ 16
 
 -- Two bytes are below 65,536.
 u16-small : (bytes : List ℕ) → Bytes bytes → (i : ℕ) → u16At bytes i < 65536
@@ -47,8 +49,12 @@ entry-of-range bytes small =
 pub entry-range : (bytes : List ℕ) → Bytes bytes → (k : ℕ) → InRange (entryAt bytes k)
 unfolding entryAt
 entry-range bytes small k =
-    let from = entryBytes * k in
+    let from = k * entryBytes in
     entry-of-range (entryPart bytes k) (take-bytes entryBytes (drop from bytes) (λ i. rw getD-drop (small (from + i))))
+
+-- Of c entries, entry k lies within the bytes.
+pub entry-fits : (bytes : List ℕ) (c k : ℕ) → length bytes ≡ entryBytes * c → k < c → k * entryBytes + entryBytes ≤ length bytes
+entry-fits bytes c k e h = part-fits entryBytes k c bytes (e ∙ mul-comm entryBytes c) h
 
 -- Document 01's example I: 01 00 00 00 00 80 00 00 00 00 has id 1 and cost −32,768, and with FF 7F in the cost field 32,767.
 pub example-I :

@@ -14,7 +14,7 @@ use Rattle.ground.specs.Text.{leads, leadRow, isLead, within}
 use Rattle.ground.specs.Filling.{sizeByLead}
 use Rattle.ground.specs.declared.text.Lead.{Lead}
 use Rattle.ground.specs.declared.text.LeadFound.the-variants.{Row}
-use Rattle.ground.proofs.RangeLaws.{from-mono}
+use Rattle.ground.proofs.RangeLaws.{at-least-mono}
 
 -- a test passes at every row
 abbrev every : (Lead → Bool) → List Lead → Bool
@@ -109,7 +109,7 @@ row-size byte row f =
 
 -- a higher lead byte tells no shorter length
 size-mono : (a b : ℕ) → a ≤ b → sizeByLead a ≤ sizeByLead b
-size-mono a b h = omega (arith, from-mono 0x80 a b h, from-mono 0xe0 a b h, from-mono 0xf0 a b h)
+size-mono a b h = omega (arith, at-least-mono 0x80 a b h, at-least-mono 0xe0 a b h, at-least-mono 0xf0 a b h)
 
 -- so each lead byte of a row tells the row's length
 pub lead-size : (byte : ℕ) (row : Lead) → leadRow leads byte ≡ Row row → sizeByLead byte ≡ row .size

@@ -14,18 +14,18 @@ use Rattle.ground.specs.declared.text.Lead.{Lead}
 use Rattle.ground.specs.declared.text.LeadFound.{LeadFound}
 use Rattle.ground.specs.declared.text.LeadFound.the-variants.{Row, NoRow}
 use Rattle.ground.specs.declared.text.Letter.{Letter}
-use Rattle.ground.specs.declared.text.Next.{Next}
-use Rattle.ground.specs.declared.text.Next.the-variants.{Whole, Broken}
+use Rattle.ground.specs.declared.text.Decoded.{Decoded}
+use Rattle.ground.specs.declared.text.Decoded.the-variants.{Whole, IllFormed}
 use Rattle.ground.proofs.LeadLaws.{row-size}
 
 -- no character is made of too few bytes
-pub too-short : (row : Lead) (byte : ℕ) (following : List ℕ) → suc (length following) < row .size → letterOf row byte following ≡ Broken
+pub too-short : (row : Lead) (byte : ℕ) (following : List ℕ) → suc (length following) < row .size → letterOf row byte following ≡ IllFormed
 too-short row byte following h = rw (ne-eqb (suc (length following)) (row .size) (λ e. omega arith))
 
 -- with as many bytes as the row says, what follows the lead byte decides
 pub judged : (row : Lead) (byte : ℕ) (following : List ℕ) → suc (length following) ≡ row .size → (t : Bool) → mayFollow row following ≡ t
     → letterOf row byte following
-    ≡ cond t (Whole (record { size = row .size; code = sixBits (leadBits (length following) byte) following })) Broken
+    ≡ cond t (Whole (record { size = row .size; code = sixBits (leadBits (length following) byte) following })) IllFormed
 judged row byte following e t m = rw (eq-eqb (suc (length following)) (row .size) e, m)
 
 -- the row of the first byte decides
@@ -50,7 +50,7 @@ letter-parts (byte ∷ rest) letter e = go (leadRow leads byte) refl e
   where
     made : (row : Lead) → leadRow leads byte ≡ Row row → (following : List ℕ) → following ≡ take (row .size - 1) rest
         → (t : Bool) → eqb (suc (length following)) (row .size) ≡ t
-        → (m : Bool) → cond (t && m) (Whole (record { size = row .size; code = sixBits (leadBits (length following) byte) following })) Broken ≡ Whole letter
+        → (m : Bool) → cond (t && m) (Whole (record { size = row .size; code = sixBits (leadBits (length following) byte) following })) IllFormed ≡ Whole letter
         → Parts (byte ∷ rest) letter
     made row f following l true t true w =
         let long : suc (length following) ≡ row .size = eqb-true (suc (length following)) (row .size) t in
@@ -79,12 +79,12 @@ letter-size bytes letter e =
     let p = letter-parts bytes letter e in
     (omega (arith, row-size (getD bytes 0 0) (p .row) (p .lead)), p .enough)
 
--- what is not broken is a character
-pub unbroken : (bytes : List ℕ) → (letterAt bytes ≡ Broken → ⊥) → (letter : Letter) × (letterAt bytes ≡ Whole letter)
-unbroken bytes h = go (letterAt bytes) refl
+-- what is not ill formed is a character
+pub well-formed : (bytes : List ℕ) → (letterAt bytes ≡ IllFormed → ⊥) → (letter : Letter) × (letterAt bytes ≡ Whole letter)
+well-formed bytes h = go (letterAt bytes) refl
   where
-    go : (next : Next) → letterAt bytes ≡ next → (letter : Letter) × (letterAt bytes ≡ Whole letter)
-    go Broken e = absurd (h e)
+    go : (next : Decoded) → letterAt bytes ≡ next → (letter : Letter) × (letterAt bytes ≡ Whole letter)
+    go IllFormed e = absurd (h e)
     go (Whole letter) e = (letter, e)
 
 -- a part from a place on to the end, its first byte, and one byte at a time

@@ -6,19 +6,19 @@ use native.Mathlib.Omega.{arith}
 use lib.Dec.{leb}
 use borrow.Author.Tests.{leb-true, leb-false, le-leb, lt-leb}
 use Rattle.ground.specs.Text.{within}
-use Rattle.ground.specs.Filling.{from, inBlock}
+use Rattle.ground.specs.Filling.{atLeast, inBlock}
 
 pub above-range : (low high x : ℕ) → high < x → within low high x ≡ false
 above-range low high x h = rw (lt-leb x high h, and-false)
 
-pub from-below : (low x : ℕ) → x < low → from low x ≡ 0
-from-below low x h = rw (lt-leb low x h)
+pub at-least-below : (low x : ℕ) → x < low → atLeast low x ≡ 0
+at-least-below low x h = rw (lt-leb low x h)
 
-pub from-above : (low x : ℕ) → low ≤ x → from low x ≡ 1
-from-above low x h = rw (le-leb low x h)
+pub at-least-above : (low x : ℕ) → low ≤ x → atLeast low x ≡ 1
+at-least-above low x h = rw (le-leb low x h)
 
-pub from-mono : (low a b : ℕ) → a ≤ b → from low a ≤ from low b
-from-mono low a b h = go (leb low a) refl (leb low b) refl
+pub at-least-mono : (low a b : ℕ) → a ≤ b → atLeast low a ≤ atLeast low b
+at-least-mono low a b h = go (leb low a) refl (leb low b) refl
   where
     go : (s : Bool) → leb low a ≡ s → (t : Bool) → leb low b ≡ t → cond s 1 0 ≤ cond t 1 0
     go false e t f = omega arith
@@ -26,7 +26,7 @@ from-mono low a b h = go (leb low a) refl (leb low b) refl
     go true e false f = absurd (omega (arith, leb-true low a e, leb-false low b f))
 
 -- a block is what is reached from its first on, less what is reached behind its last
-pub block : (low high x : ℕ) → low ≤ high → from low x ≡ inBlock low high x + from (high + 1) x
+pub block : (low high x : ℕ) → low ≤ high → atLeast low x ≡ inBlock low high x + atLeast (high + 1) x
 block low high x h = go (leb low x) refl (leb x high) refl (leb (high + 1) x) refl
   where
     go : (s : Bool) → leb low x ≡ s → (t : Bool) → leb x high ≡ t → (u : Bool) → leb (high + 1) x ≡ u

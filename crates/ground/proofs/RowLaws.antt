@@ -1,23 +1,37 @@
--- The two rows of the character table: their lengths, and the runs counted from the right. Assumes nothing.
-use Prim.Native.Nat.{ℕ, suc, _+_, _≤_, _<_}
+-- Parts of rows; the two rows of the character table: their lengths, and the runs counted from the right. Assumes nothing.
+use Prim.Native.Nat.{ℕ, suc, _+_, _*_, _≤_, _<_}
 use mathlib.Core.Path.{_≡_, refl, ap, _∙_, sym}
 use mathlib.Core.Bool.{Bool, true, false, cond}
 use mathlib.Core.List.{List, [], _∷_, _++_}
 use native.Mathlib.Omega.{arith}
-use native.Mathlib.Nat.{zero-add}
+use native.Mathlib.Nat.{zero-add, suc-mul, mul-le-mul-right}
 use lib.ListN.{length, take, drop, getD, set, take-append-drop, length-append, length-take, length-drop, drop-of-length-le}
-use lib.Seq.{sets, sets-eq, take-suc, drop-cons, append-snoc, getD-at, getD-append-add, getD-take, set-at, length-take-le}
+use lib.Seq.{sets, sets-eq, take-suc, drop-cons, append-snoc, getD-at, getD-append-add, getD-take, getD-drop, set-at, length-take-le}
 use Rattle.ground.specs.Text.{isKanji, runOf, runAhead, runs, offsetsFrom}
-use Rattle.ground.specs.Rows.{over}
-use Rattle.ground.specs.Filling.{marked, marks, counted}
+use Rattle.ground.specs.Rows.{part, over}
+use Rattle.ground.specs.Filling.{isSet, kanjiBits, counted}
 use Rattle.ground.specs.declared.text.Letter.{Letter}
+
+-- ---- parts
+
+-- a place of a part is a place of the row
+pub part-at {ℓ} : {A : Type ℓ} (width k r : ℕ) (row : List A) (d : A) → r < width → getD (part width k row) r d ≡ getD row (k * width + r) d
+part-at width k r row d h = rw (getD-take, getD-drop)
+
+-- a part that lies within the row has its width
+pub part-length {ℓ} : {A : Type ℓ} (width k : ℕ) (row : List A) → k * width + width ≤ length row → length (part width k row) ≡ width
+part-length width k row h = length-take-le width (drop (k * width) row) (rw length-drop (omega arith))
+
+-- of a row of `count` parts, each lies within
+pub part-fits {ℓ} : {A : Type ℓ} (width k count : ℕ) (row : List A) → length row ≡ count * width → k < count → k * width + width ≤ length row
+part-fits width k count row e h = omega (arith, suc-mul k width, mul-le-mul-right {m = suc k} {n = count} width h)
 
 -- ---- lengths
 
-pub marks-length : (ls : List Letter) → length (marks ls) ≡ suc (length ls)
-unfolding marks
-marks-length [] = refl
-marks-length (l ∷ ls) = ap suc (marks-length ls)
+pub bits-length : (ls : List Letter) → length (kanjiBits ls) ≡ suc (length ls)
+unfolding kanjiBits
+bits-length [] = refl
+bits-length (l ∷ ls) = ap suc (bits-length ls)
 
 pub runs-length : (ls : List Letter) → length (runs ls) ≡ suc (length ls)
 unfolding runs
@@ -39,36 +53,36 @@ sets-over new old h = sets-eq new old 0 (omega arith) ∙ ap (λ (k : ℕ). new 
 
 -- ---- runs
 
-mark-kanji : (kanji : Bool) → marked (cond kanji 1 0) ≡ kanji
-mark-kanji true = refl
-mark-kanji false = refl
+bit-kanji : (kanji : Bool) → isSet (cond kanji 1 0) ≡ kanji
+bit-kanji true = refl
+bit-kanji false = refl
 
 runs-first : (ls : List Letter) (rest : List ℕ) → getD (runs ls ++ rest) 0 0 ≡ getD (runs ls) 0 0
 unfolding runs
 runs-first [] rest = refl
 runs-first (l ∷ ls) rest = refl
 
--- marks counted from the right are the runs
-pub marks-counted : (ls : List Letter) (rest : List ℕ)
-    → counted (take (length ls) (marks ls ++ rest)) (drop (length ls) (marks ls ++ rest)) ≡ runs ls ++ rest
-unfolding marks counted runs
-marks-counted [] rest = refl
-marks-counted (l ∷ ls) rest =
+-- kanji bits counted from the right are the runs
+pub bits-counted : (ls : List Letter) (rest : List ℕ)
+    → counted (take (length ls) (kanjiBits ls ++ rest)) (drop (length ls) (kanjiBits ls ++ rest)) ≡ runs ls ++ rest
+unfolding kanjiBits counted runs
+bits-counted [] rest = refl
+bits-counted (l ∷ ls) rest =
     let k = isKanji (l .code) in
-    ap (λ (t : Bool). runAhead t (counted (take (length ls) (marks ls ++ rest)) (drop (length ls) (marks ls ++ rest)))) (mark-kanji k)
-    ∙ ap (λ (behind : List ℕ). runAhead k behind) (marks-counted ls rest)
+    ap (λ (t : Bool). runAhead t (counted (take (length ls) (kanjiBits ls ++ rest)) (drop (length ls) (kanjiBits ls ++ rest)))) (bit-kanji k)
+    ∙ ap (λ (behind : List ℕ). runAhead k behind) (bits-counted ls rest)
     ∙ ap (λ (first : ℕ). runOf k first ∷ runs ls ++ rest) (runs-first ls rest)
 
-pub marks-last : (ls : List Letter) (rest : List ℕ) → getD (marks ls ++ rest) (length ls) 0 ≡ 0
-unfolding marks
-marks-last [] rest = refl
-marks-last (l ∷ ls) rest = marks-last ls rest
+pub bits-last : (ls : List Letter) (rest : List ℕ) → getD (kanjiBits ls ++ rest) (length ls) 0 ≡ 0
+unfolding kanjiBits
+bits-last [] rest = refl
+bits-last (l ∷ ls) rest = bits-last ls rest
 
 pub counted-over : (ls : List Letter) (old : List ℕ)
-    → counted (take (length ls) (over (marks ls) old)) (drop (length ls) (over (marks ls) old)) ≡ over (runs ls) old
+    → counted (take (length ls) (over (kanjiBits ls) old)) (drop (length ls) (over (kanjiBits ls) old)) ≡ over (runs ls) old
 counted-over ls old =
-    marks-counted ls (drop (length (marks ls)) old)
-    ∙ ap (λ (k : ℕ). runs ls ++ drop k old) (marks-length ls ∙ sym (runs-length ls))
+    bits-counted ls (drop (length (kanjiBits ls)) old)
+    ∙ ap (λ (k : ℕ). runs ls ++ drop k old) (bits-length ls ∙ sym (runs-length ls))
 
 pub run-most : (kanji : Bool) (x : ℕ) → runOf kanji x ≤ 1 + x
 run-most true x = omega arith
@@ -87,7 +101,7 @@ module _ (run₀ : List ℕ) (n : ℕ) (fits : n ≤ length run₀) where
       rw (drop-of-length-le (take n run₀) {i = n} (omega (arith, length-take n run₀))) (sym (take-append-drop n run₀))
 
   pub counted-more : (run : List ℕ) (j : ℕ) → j < n → run ≡ take (suc j) run₀ ++ behind run₀ n (suc j)
-      → set run j (runOf (marked (getD run j 0)) (getD run (j + 1) 0)) ≡ take j run₀ ++ behind run₀ n j
+      → set run j (runOf (isSet (getD run j 0)) (getD run (j + 1) 0)) ≡ take j run₀ ++ behind run₀ n j
   unfolding counted
   counted-more run j h e =
       let x = getD run₀ j 0 in
@@ -102,8 +116,8 @@ module _ (run₀ : List ℕ) (n : ℕ) (fits : n ≤ length run₀) where
       let next : drop j (take n run₀) ≡ x ∷ drop (suc j) (take n run₀) =
       drop-cons (take n run₀) j 0 (omega (arith, length-take n run₀))
       ∙ ap (λ (y : ℕ). y ∷ drop (suc j) (take n run₀)) (getD-take n run₀ j 0 h) in
-      ap (λ (l : List ℕ). set l j (runOf (marked (getD run j 0)) (getD run (j + 1) 0))) shown
-      ∙ set-at (take j run₀) x (behind run₀ n (suc j)) (runOf (marked (getD run j 0)) (getD run (j + 1) 0)) j long
-      ∙ ap (λ (y : ℕ). take j run₀ ++ runOf (marked y) (getD run (j + 1) 0) ∷ behind run₀ n (suc j)) here
-      ∙ ap (λ (y : ℕ). take j run₀ ++ runOf (marked x) y ∷ behind run₀ n (suc j)) after
+      ap (λ (l : List ℕ). set l j (runOf (isSet (getD run j 0)) (getD run (j + 1) 0))) shown
+      ∙ set-at (take j run₀) x (behind run₀ n (suc j)) (runOf (isSet (getD run j 0)) (getD run (j + 1) 0)) j long
+      ∙ ap (λ (y : ℕ). take j run₀ ++ runOf (isSet y) (getD run (j + 1) 0) ∷ behind run₀ n (suc j)) here
+      ∙ ap (λ (y : ℕ). take j run₀ ++ runOf (isSet x) y ∷ behind run₀ n (suc j)) after
       ∙ ap (λ (l : List ℕ). take j run₀ ++ counted l (drop n run₀)) (sym next)

@@ -7,8 +7,8 @@ use lib.ListN.{length, drop, length-drop, drop-of-length-le}
 use lib.Seq.{drop-drop}
 use Rattle.ground.specs.Text.{letterAt, followedBy, lettersIn, letters, sizes}
 use Rattle.ground.specs.declared.text.Letter.{Letter}
-use Rattle.ground.specs.declared.text.Next.{Next}
-use Rattle.ground.specs.declared.text.Next.the-variants.{Whole, Broken}
+use Rattle.ground.specs.declared.text.Decoded.{Decoded}
+use Rattle.ground.specs.declared.text.Decoded.the-variants.{Whole, IllFormed}
 use Rattle.ground.proofs.LetterLaws.{letter-size}
 
 -- a limit that is no less than the number of bytes changes nothing
@@ -21,10 +21,10 @@ enough (suc most) zero [] h k = refl
 enough (suc most) zero (byte ∷ rest) h k = absurd (omega arith)
 enough (suc most) (suc more) bytes h k = go (letterAt bytes) refl (enough most more)
   where
-    go : (next : Next) → letterAt bytes ≡ next
+    go : (next : Decoded) → letterAt bytes ≡ next
         → ((less : List ℕ) → length less ≤ most → length less ≤ more → lettersIn most less ≡ lettersIn more less)
         → followedBy next (λ (size : ℕ). lettersIn most (drop size bytes)) ≡ followedBy next (λ (size : ℕ). lettersIn more (drop size bytes))
-    go Broken e again = refl
+    go IllFormed e again = refl
     go (Whole letter) e again =
         let s = letter-size bytes letter e in
         ap (λ (ls : List Letter). letter ∷ ls)
@@ -36,7 +36,7 @@ unfolding letters lettersIn letterAt
 letters-whole [] letter e = let z : _≡_ {A = ℕ} 0 1 = cc in absurd (omega arith)
 letters-whole (byte ∷ rest) letter e =
     let s = letter-size (byte ∷ rest) letter e in
-    ap (λ (next : Next). followedBy next (λ (size : ℕ). lettersIn (length rest) (drop size (byte ∷ rest)))) e
+    ap (λ (next : Decoded). followedBy next (λ (size : ℕ). lettersIn (length rest) (drop size (byte ∷ rest)))) e
     ∙ ap (λ (ls : List Letter). letter ∷ ls)
     (enough (length rest) (length (drop (letter .size) (byte ∷ rest))) (drop (letter .size) (byte ∷ rest))
     (omega (arith, length-drop (letter .size) (byte ∷ rest))) (omega arith))
@@ -52,52 +52,52 @@ unfolding letters lettersIn
 letters-end text at h = rw (drop-of-length-le text {i = at} h)
 
 -- where no whole character stands, none is counted
-pub letters-broken : (bytes : List ℕ) → letterAt bytes ≡ Broken → letters bytes ≡ []
+pub letters-ill-formed : (bytes : List ℕ) → letterAt bytes ≡ IllFormed → letters bytes ≡ []
 unfolding letters lettersIn letterAt
-letters-broken [] e = refl
-letters-broken (byte ∷ rest) e = ap (λ (next : Next). followedBy next (λ (size : ℕ). lettersIn (length rest) (drop size (byte ∷ rest)))) e
+letters-ill-formed [] e = refl
+letters-ill-formed (byte ∷ rest) e = ap (λ (next : Decoded). followedBy next (λ (size : ℕ). lettersIn (length rest) (drop size (byte ∷ rest)))) e
 
--- where the characters take some bytes, the first of them is not broken
-pub not-broken : (bytes : List ℕ) → 0 < sizes (letters bytes) → letterAt bytes ≡ Broken → ⊥
+-- where the characters take some bytes, the first of them is not ill formed
+pub not-ill-formed : (bytes : List ℕ) → 0 < sizes (letters bytes) → letterAt bytes ≡ IllFormed → ⊥
 unfolding sizes
-not-broken bytes h e = omega (arith, ap sizes (letters-broken bytes e))
+not-ill-formed bytes h e = omega (arith, ap sizes (letters-ill-formed bytes e))
 
 -- ---- the longest run
 
 -- Whole well-formed characters, one after the other, from the bytes' start.
-pub data Run : List ℕ → List Letter → Type 0 where
-  none : {bytes : List ℕ} → Run bytes []
+pub data Begins : List ℕ → List Letter → Type 0 where
+  none : {bytes : List ℕ} → Begins bytes []
   one : {bytes : List ℕ} {letter : Letter} {more : List Letter} → letterAt bytes ≡ Whole letter
-      → Run (drop (letter .size) bytes) more → Run bytes (letter ∷ more)
+      → Begins (drop (letter .size) bytes) more → Begins bytes (letter ∷ more)
 
 -- The characters of a text are such a run ..
-run-most : (most : ℕ) (bytes : List ℕ) → length bytes ≤ most → Run bytes (letters bytes)
-run-most zero bytes h = rw (letters-end bytes 0 (omega arith)) none
-run-most (suc most) bytes h = go (letterAt bytes) refl (run-most most)
+begins-most : (most : ℕ) (bytes : List ℕ) → length bytes ≤ most → Begins bytes (letters bytes)
+begins-most zero bytes h = rw (letters-end bytes 0 (omega arith)) none
+begins-most (suc most) bytes h = go (letterAt bytes) refl (begins-most most)
   where
-    go : (next : Next) → letterAt bytes ≡ next → ((less : List ℕ) → length less ≤ most → Run less (letters less)) → Run bytes (letters bytes)
-    go Broken e again = rw (letters-broken bytes e) none
+    go : (next : Decoded) → letterAt bytes ≡ next → ((less : List ℕ) → length less ≤ most → Begins less (letters less)) → Begins bytes (letters bytes)
+    go IllFormed e again = rw (letters-ill-formed bytes e) none
     go (Whole letter) e again =
         let s = letter-size bytes letter e in
         rw (letters-whole bytes letter e) (one e (again (drop (letter .size) bytes) (omega (arith, length-drop (letter .size) bytes))))
 
-pub letters-run : (bytes : List ℕ) → Run bytes (letters bytes)
-letters-run bytes = run-most (length bytes) bytes (omega arith)
+pub letters-begin : (bytes : List ℕ) → Begins bytes (letters bytes)
+letters-begin bytes = begins-most (length bytes) bytes (omega arith)
 
 -- .. and no run goes further.
-pub longest : {bytes : List ℕ} {run : List Letter} → Run bytes run → sizes run ≤ sizes (letters bytes)
+pub longest : {bytes : List ℕ} {run : List Letter} → Begins bytes run → sizes run ≤ sizes (letters bytes)
 unfolding sizes
 longest none = omega arith
 longest {bytes} (one {letter = letter} e r) = let h = longest r in rw (letters-whole bytes letter e) (omega arith)
 
 -- A run takes no more bytes than there are.
-run-within : {bytes : List ℕ} {run : List Letter} → Run bytes run → sizes run ≤ length bytes
+begins-within : {bytes : List ℕ} {run : List Letter} → Begins bytes run → sizes run ≤ length bytes
 unfolding sizes
-run-within none = omega arith
-run-within {bytes} (one {letter = letter} e r) =
+begins-within none = omega arith
+begins-within {bytes} (one {letter = letter} e r) =
     let s = letter-size bytes letter e in
-    let h = run-within r in
+    let h = begins-within r in
     omega (arith, length-drop (letter .size) bytes)
 
 pub sizes-within : (bytes : List ℕ) → sizes (letters bytes) ≤ length bytes
-sizes-within bytes = run-within (letters-run bytes)
+sizes-within bytes = begins-within (letters-begin bytes)

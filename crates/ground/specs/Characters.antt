@@ -36,27 +36,27 @@ unfoldable pub checked : List ℕ → Checked
 checked text = checkedBy (textRefused text) (length (letters text))
 
 -- What a call leaves: the answer, and the two rows after it.
-pub record Table : Type 0 where
+pub record Outcome : Type 0 where
   pub answer : Answer
   pub offset : List ℕ
   pub run : List ℕ
 
 -- An answer and two rows, put together.
-abbrev pub table : Answer → List ℕ → List ℕ → Table
-table answer offset run = record { answer = answer; offset = offset; run = run }
+abbrev pub outcome : Answer → List ℕ → List ℕ → Outcome
+outcome answer offset run = record { answer = answer; offset = offset; run = run }
 
 -- A row that has fewer than n + 1 places.
 abbrev pub short : ℕ → List ℕ → Bool
 short n row = ltb (length row) (n + 1)
 
 -- A refusal changes nothing; otherwise both rows are filled, and the places beyond keep their contents.
-abbrev pub filledUnless : Option Answer → List ℕ → List ℕ → List ℕ → Table
-filledUnless (some answer) text offset run = table answer offset run
+abbrev pub filledUnless : Option Answer → List ℕ → List ℕ → List ℕ → Outcome
+filledUnless (some answer) text offset run = outcome answer offset run
 filledUnless none text offset run =
-    table (Done (length (letters text)) (pos 0)) (over (offsets (letters text)) offset) (over (runs (letters text)) run)
+    outcome (Done (length (letters text)) (pos 0)) (over (offsets (letters text)) offset) (over (runs (letters text)) run)
 
 -- The character table: the tests of the text, then 7, then the filling.
-unfoldable pub characters : List ℕ → List ℕ → List ℕ → Table
+unfoldable pub characters : List ℕ → List ℕ → List ℕ → Outcome
 characters text offset run =
     filledUnless
     (orElse (textRefused text)

@@ -21,6 +21,6 @@ charge (Decompose p) run len =
     cond (kanjiOnly run len) (above len (p .«kanji_threshold») (p .«kanji_price»)) (above len (p .«other_threshold») (p .«other_price»))
 
 -- The prices of a mode that passed the job's tests.
-abbrev pub Priced : Mode → Type 0
-Priced Normal = Unit {0}
-Priced (Decompose p) = (p .«kanji_price» ≤ priceLimit) × (p .«other_price» ≤ priceLimit)
+abbrev pub PricesFit : Mode → Type 0
+PricesFit Normal = Unit {0}
+PricesFit (Decompose p) = (p .«kanji_price» ≤ priceLimit) × (p .«other_price» ≤ priceLimit)

@@ -2,9 +2,10 @@
 use Prim.Native.Nat.{ℕ, zero, suc, _+_, _-_, _*_}
 use mathlib.Core.Bool.{cond}
 use mathlib.Core.List.{List}
-use lib.ListN.{take, drop, getD}
+use lib.ListN.{getD}
 use lib.IntN.{ℤ, pos, negsuc}
 use lib.Dec.{ltb}
+use Rattle.ground.specs.Rows.{part}
 use Rattle.ground.specs.declared.entry.Entry.{Entry}
 use Rattle.ground.specs.declared.entry.Kind.{Kind}
 use Rattle.ground.specs.declared.entry.Kind.the-variants.{System, User, Unknown, Unnamed}
@@ -20,6 +21,18 @@ u32At bytes i = u16At bytes i + 65536 * u16At bytes (i + 2)
 abbrev pub signed16 : ℕ → ℤ
 signed16 x = cond (ltb x 32768) (pos x) (negsuc (65535 - x))
 
+-- The start mark is entry 0 of the lattice.
+abbrev pub startEntry : ℕ
+startEntry = 0
+
+-- The start mark has right id 0, the end mark left id 0.
+abbrev pub markId : ℕ
+markId = 0
+
+-- The number that means "none".
+abbrev pub noneLink : ℕ
+noneLink = 65535
+
 -- How many bytes a word entry has.
 abbrev pub entryBytes : ℕ
 entryBytes = 10
@@ -31,7 +44,7 @@ entryOf bytes =
 
 -- Candidate k's ten bytes: those from 10 × k on.
 abbrev pub entryPart : List ℕ → ℕ → List ℕ
-entryPart bytes k = take entryBytes (drop (entryBytes * k) bytes)
+entryPart bytes k = part entryBytes k bytes
 
 -- Candidate k's word entry.
 unfoldable pub entryAt : List ℕ → ℕ → Entry

@@ -16,13 +16,13 @@ pub record Sound (text : List ℕ) (n : ℕ) : Type 0 where
   pub count : n ≡ length (letters text)
   pub few : n ≤ characterLimit
 
--- 1 from `low` on, and 0 below.
-abbrev pub from : ℕ → ℕ → ℕ
-from low x = cond (leb low x) 1 0
+-- 1 atLeast `low` on, and 0 below.
+abbrev pub atLeast : ℕ → ℕ → ℕ
+atLeast low x = cond (leb low x) 1 0
 
--- The length of a character by its lead byte, once it is known to be well formed: one more from 80, from E0 and from F0 on.
+-- The length of a character by its lead byte, once it is known to be well formed: one more atLeast 80, atLeast E0 and atLeast F0 on.
 abbrev pub sizeByLead : ℕ → ℕ
-sizeByLead lead = 1 + from 0x80 lead + from 0xe0 lead + from 0xf0 lead
+sizeByLead lead = 1 + atLeast 0x80 lead + atLeast 0xe0 lead + atLeast 0xf0 lead
 
 -- The character that the first `size` bytes make, well formed or not.
 abbrev pub letterOfSize : List ℕ → ℕ → Letter
@@ -34,19 +34,19 @@ abbrev pub inBlock : ℕ → ℕ → ℕ → ℕ
 inBlock low high code = cond (within low high code) 1 0
 
 -- 1 for a kanji and 0 for another character.
-abbrev pub markOf : ℕ → ℕ
-markOf code = cond (isKanji code) 1 0
+abbrev pub kanjiBit : ℕ → ℕ
+kanjiBit code = cond (isKanji code) 1 0
 
--- Whether a mark is a kanji's.
-abbrev pub marked : ℕ → Bool
-marked mark = not (eqb mark 0)
+-- Whether a bit is set.
+abbrev pub isSet : ℕ → Bool
+isSet bit = not (eqb bit 0)
 
--- The marks of the characters, and 0 behind the last.
-unfoldable pub marks : List Letter → List ℕ
-marks [] = 0 ∷ []
-marks (letter ∷ more) = markOf (letter .code) ∷ marks more
+-- The kanjiBits of the characters, and 0 behind the last.
+unfoldable pub kanjiBits : List Letter → List ℕ
+kanjiBits [] = 0 ∷ []
+kanjiBits (letter ∷ more) = kanjiBit (letter .code) ∷ kanjiBits more
 
--- Marks made runs, from the right, ahead of what stands behind them.
+-- Marks made runs, atLeast the right, ahead of what stands behind them.
 unfoldable pub counted : List ℕ → List ℕ → List ℕ
 counted [] behind = behind
-counted (mark ∷ more) behind = runAhead (marked mark) (counted more behind)
+counted (bit ∷ more) behind = runAhead (isSet bit) (counted more behind)

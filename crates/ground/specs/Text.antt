@@ -8,8 +8,8 @@ use Rattle.ground.specs.declared.text.Lead.{Lead}
 use Rattle.ground.specs.declared.text.LeadFound.{LeadFound}
 use Rattle.ground.specs.declared.text.LeadFound.the-variants.{Row, NoRow}
 use Rattle.ground.specs.declared.text.Letter.{Letter}
-use Rattle.ground.specs.declared.text.Next.{Next}
-use Rattle.ground.specs.declared.text.Next.the-variants.{Whole, Broken}
+use Rattle.ground.specs.declared.text.Decoded.{Decoded}
+use Rattle.ground.specs.declared.text.Decoded.the-variants.{Whole, IllFormed}
 
 -- A range of bytes or of code points, both ends in it.
 abbrev pub within : ℕ → ℕ → ℕ → Bool
@@ -82,28 +82,28 @@ abbrev pub codeOf : ℕ → List ℕ → ℕ
 codeOf byte following = sixBits (leadBits (length following) byte) following
 
 -- A character of a row: it has as many bytes as the row's length says, and those behind the lead byte may follow it.
-abbrev pub letterOf : Lead → ℕ → List ℕ → Next
+abbrev pub letterOf : Lead → ℕ → List ℕ → Decoded
 letterOf row byte following =
     cond (eqb (suc (length following)) (row .size) && mayFollow row following)
     (Whole (record { size = row .size; code = codeOf byte following }))
-    Broken
+    IllFormed
 
 -- The character that a lead byte and the rest begin with: by the lead byte's row.
-abbrev pub letterBy : LeadFound → ℕ → List ℕ → Next
-letterBy NoRow byte rest = Broken
+abbrev pub letterBy : LeadFound → ℕ → List ℕ → Decoded
+letterBy NoRow byte rest = IllFormed
 letterBy (Row row) byte rest = letterOf row byte (take (row .size - 1) rest)
 
 -- The character that the bytes begin with, if they begin with a whole well-formed one.
-unfoldable pub letterAt : List ℕ → Next
+unfoldable pub letterAt : List ℕ → Decoded
 unfolding leads leadRow
-letterAt [] = Broken
+letterAt [] = IllFormed
 letterAt (byte ∷ rest) = letterBy (leadRow leads byte) byte rest
 
 -- ---- the text
 
 -- A whole character and those behind it; nothing where none stands.
-abbrev pub followedBy : Next → (ℕ → List Letter) → List Letter
-followedBy Broken more = []
+abbrev pub followedBy : Decoded → (ℕ → List Letter) → List Letter
+followedBy IllFormed more = []
 followedBy (Whole letter) more = letter ∷ more (letter .size)
 
 -- The whole well-formed characters from the start, one after the other, at most `most` of them.

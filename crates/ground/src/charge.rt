@@ -4,7 +4,7 @@ ghost use mathlib.Core.Path.{_≡_};
 ghost use Prim.Native.Nat.{_≤_};
 ghost use lib.IntN.{pos};
 ghost use Rattle.ground.specs.Limits.{priceLimit};
-ghost use Rattle.ground.specs.Charge.{charge, above, Priced};
+ghost use Rattle.ground.specs.Charge.{charge, above, PricesFit};
 
 // Two thresholds and two prices: of kanji only words, and of others.
 pub struct Penalty {
@@ -19,7 +19,7 @@ pub enum Mode {
     Decompose(Penalty),
 }
 
-fn charged_above(len: u16, threshold: u16, price: u16) -> i32
+fn above(len: u16, threshold: u16, price: u16) -> i32
     requires { ⌜ price ≤ priceLimit ⌝ }
     ensures { λ r. ⌜ r ≡ pos (above len threshold price) ⌝ }
 {
@@ -33,16 +33,16 @@ fn charged_above(len: u16, threshold: u16, price: u16) -> i32
 impl Mode {
     // The charge of a word of len characters, at whose first one the kanji run is run.
     pub fn charge(self, run: u16, len: u16) -> i32
-        requires { ⌜ Priced self ⌝ }
+        requires { ⌜ PricesFit self ⌝ }
         ensures { λ r. ⌜ r ≡ pos (charge self run len) ⌝ }
     {
         match self {
             Mode::Normal => 0,
             Mode::Decompose(p) => {
                 if len <= run {
-                    charged_above(len, p.kanji_threshold, p.kanji_price)
+                    above(len, p.kanji_threshold, p.kanji_price)
                 } else {
-                    charged_above(len, p.other_threshold, p.other_price)
+                    above(len, p.other_threshold, p.other_price)
                 }
             }
         }

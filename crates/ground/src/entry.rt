@@ -5,6 +5,7 @@ ghost use Prim.Native.Nat.{_+_, _*_, _≤_, _<_};
 ghost use lib.ListN.{length};
 ghost use Rattle.ground.specs.Entry.{entryOf, entryAt, entryPart, entryBytes, u16At, u32At, kindOf};
 
+// Document 01's entry type: a word's ten bytes, read. The lattice's constants belong to it too.
 pub struct Entry {
     pub id: u32,
     pub cost: i16,
@@ -59,17 +60,17 @@ impl Entry {
 
     // Candidate k's ten bytes: the part of the lent bytes that starts at 10 × k.
     fn part(bytes: &[u8], k: usize) -> &[u8]
-        requires { ⌜ entryBytes * k + entryBytes ≤ length (now bytes) ⌝ }
+        requires { ⌜ k * entryBytes + entryBytes ≤ length (now bytes) ⌝ }
         ensures { λ r. ⌜ (now r ≡ entryPart (now (bytes .entry)) k) × (length (now r) ≡ entryBytes) ⌝ }
     {
-        let from = Self::BYTES * k;
+        let from = k * Self::BYTES;
         let to = from + Self::BYTES;
         &bytes[from..to]
     }
 
     // Candidate k's entry.
     pub fn read(bytes: &[u8], k: usize) -> Entry
-        requires { ⌜ entryBytes * k + entryBytes ≤ length (now bytes) ⌝ }
+        requires { ⌜ k * entryBytes + entryBytes ≤ length (now bytes) ⌝ }
         ensures { λ r. ⌜ r ≡ entryAt (now (bytes .entry)) k ⌝ }
     {
         Self::of(Self::part(bytes, k))
@@ -77,7 +78,7 @@ impl Entry {
 
     // Candidate k's right id alone: two bytes, for the relaxation's inner loop.
     pub fn right_id_of(bytes: &[u8], k: usize) -> u16
-        requires { ⌜ entryBytes * k + entryBytes ≤ length (now bytes) ⌝ }
+        requires { ⌜ k * entryBytes + entryBytes ≤ length (now bytes) ⌝ }
         ensures { λ r. ⌜ r ≡ entryAt (now (bytes .entry)) k .«right_id» ⌝ }
     {
         two(Self::part(bytes, k), 8)

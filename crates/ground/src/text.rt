@@ -6,8 +6,8 @@ ghost use lib.ListN.{length, take, drop, getD};
 ghost use Rattle.ground.specs.Limits.{textLimit, characterLimit};
 ghost use Rattle.ground.specs.Rows.{over};
 ghost use Rattle.ground.specs.Text.{leads, leadRow, mayFollow, letterOf, letterAt, letters, sizes, offsets, runs, runOf};
-ghost use Rattle.ground.specs.Characters.{checked, table};
-ghost use Rattle.ground.specs.Filling.{Sound, from, sizeByLead, letterOfSize, inBlock, markOf, marked, marks, counted};
+ghost use Rattle.ground.specs.Characters.{checked, outcome};
+ghost use Rattle.ground.specs.Filling.{Sound, atLeast, sizeByLead, letterOfSize, inBlock, kanjiBit, isSet, kanjiBits, counted};
 
 // The most bytes and the most characters of a text.
 pub const TEXT_LIMIT: usize = 16_384;
@@ -106,9 +106,9 @@ pub struct Letter {
 }
 
 // What the bytes begin with.
-pub enum Next {
+pub enum Decoded {
     Whole(Letter),
-    Broken,
+    IllFormed,
 }
 
 // Whether a byte lies in a range, both ends in it.
@@ -122,7 +122,7 @@ fn within(low: u8, high: u8, byte: u8) -> bool
 }
 
 // The row that has the byte as a lead byte.
-fn row_of(byte: u8) -> LeadFound
+fn lead_row(byte: u8) -> LeadFound
     ensures { λ r. ⌜ r ≡ leadRow leads byte ⌝ }
 {
     let rows = LEADS;
@@ -194,7 +194,7 @@ fn code_of(bytes: &[u8], size: usize) -> u32
 }
 
 // The character of so many bytes that the bytes begin with.
-fn letter_of(bytes: &[u8], size: usize) -> Letter
+fn letter_of_size(bytes: &[u8], size: usize) -> Letter
     requires { ⌜ (1 ≤ size) × (size ≤ 4) × (size ≤ length (now bytes)) ⌝ }
     ensures { λ r. ⌜ r ≡ letterOfSize (now (bytes .entry)) size ⌝ }
 {
@@ -205,28 +205,28 @@ fn letter_of(bytes: &[u8], size: usize) -> Letter
 }
 
 // The character that the bytes begin with. Their first byte is one of the row's lead bytes.
-fn letter_by(row: Lead, bytes: &[u8]) -> Next
+fn letter_by(row: Lead, bytes: &[u8]) -> Decoded
     requires { ⌜ (1 ≤ row .size) × (row .size ≤ 4) × (0 < length (now bytes)) ⌝ }
     ensures { λ r. ⌜ r ≡ letterOf row (getD (now (bytes .entry)) 0 0) (take (row .size - 1) (drop 1 (now (bytes .entry)))) ⌝ }
 {
     let size = row.size;
     if bytes.len() < size {
-        return Next::Broken;
+        return Decoded::IllFormed;
     }
     if !may_follow(row, bytes) {
-        return Next::Broken;
+        return Decoded::IllFormed;
     }
-    Next::Whole(letter_of(bytes, size))
+    Decoded::Whole(letter_of_size(bytes, size))
 }
 
 // The character that stands at a place of the text.
-fn letter_at(text: &[u8], at: usize) -> Next
+fn letter_at(text: &[u8], at: usize) -> Decoded
     requires { ⌜ at < length (now text) ⌝ }
     ensures { λ r. ⌜ r ≡ letterAt (drop at (now (text .entry))) ⌝ }
 {
-    match row_of(text[at]) {
+    match lead_row(text[at]) {
         LeadFound::Row(row) => letter_by(row, &text[at..]),
-        LeadFound::NoRow => Next::Broken,
+        LeadFound::NoRow => Decoded::IllFormed,
     }
 }
 
@@ -242,7 +242,7 @@ fn measure(text: &[u8]) -> Measured
     let mut at = 0;
     let mut n = 0;
     while at < text.len() {
-        let Next::Whole(letter) = letter_at(text, at) else {
+        let Decoded::Whole(letter) = letter_at(text, at) else {
             return Measured {
                 characters: n,
                 bytes: at,
@@ -291,61 +291,61 @@ fn letter_by_lead(bytes: &[u8]) -> Letter
 {
     let lead = bytes[0];
     if lead < 0x80 {
-        return letter_of(bytes, 1);
+        return letter_of_size(bytes, 1);
     }
     if lead < 0xe0 {
-        return letter_of(bytes, 2);
+        return letter_of_size(bytes, 2);
     }
     if lead < 0xf0 {
-        return letter_of(bytes, 3);
+        return letter_of_size(bytes, 3);
     }
-    letter_of(bytes, 4)
+    letter_of_size(bytes, 4)
 }
 
 // The character at a place where one is known to stand.
 fn known_letter(text: &[u8], at: usize) -> Letter
-    requires { ⌜ (at < length (now text)) × (letterAt (drop at (now text)) ≡ Next.Broken → ⊥) ⌝ }
-    ensures { λ r. ⌜ letterAt (drop at (now (text .entry))) ≡ Next.Whole r ⌝ }
+    requires { ⌜ (at < length (now text)) × (letterAt (drop at (now text)) ≡ Decoded.IllFormed → ⊥) ⌝ }
+    ensures { λ r. ⌜ letterAt (drop at (now (text .entry))) ≡ Decoded.Whole r ⌝ }
 {
     letter_by_lead(&text[at..])
 }
 
-// 1 from `low` on.
-fn reached(low: u32, x: u32) -> u16
-    ensures { λ r. ⌜ (r ≡ from low x) × (r ≤ 1) ⌝ }
+// 1 from `low` on, and 0 below.
+fn at_least(low: u32, x: u32) -> u16
+    ensures { λ r. ⌜ (r ≡ atLeast low x) × (r ≤ 1) ⌝ }
 {
     if low <= x { 1 } else { 0 }
 }
 
-// 1 from `low` to `high`, without a jump.
+// 1 from `low` to `high`, and 0 elsewhere.
 fn in_block(low: u32, high: u32, code: u32) -> u16
     requires { ⌜ (low ≤ high) × (high < 2 ^ 31) ⌝ }
     ensures { λ r. ⌜ (r ≡ inBlock low high code) × (r ≤ 1) ⌝ }
 {
-    reached(low, code) - reached(high + 1, code)
+    at_least(low, code) - at_least(high + 1, code)
 }
 
 // 1 for a kanji and 0 for another character.
-fn mark_of(code: u32) -> u16
-    ensures { λ r. ⌜ r ≡ markOf code ⌝ }
+fn kanji_bit(code: u32) -> u16
+    ensures { λ r. ⌜ r ≡ kanjiBit code ⌝ }
 {
     in_block(0x4e00, 0x9faf, code) + in_block(0x3400, 0x4dbf, code)
 }
 
-// The offset row, and in the run row a mark for each character.
-fn fill_marks(text: &[u8], offset: &mut [u32], run: &mut [u16])
+// The offset row, and in the run row 1 for each kanji.
+fn fill_bits(text: &[u8], offset: &mut [u32], run: &mut [u16])
     requires { ⌜ length (now text) ≤ textLimit ⌝ }
     requires { ⌜ sizes (letters (now text)) ≡ length (now text) ⌝ }
     requires { ⌜ (length (letters (now text)) < length (now offset)) × (length (letters (now text)) < length (now run)) ⌝ }
     ensures { λ _. ⌜ now (offset .exit) ≡ over (offsets (letters (now (text .entry)))) (now (offset .entry)) ⌝ }
-    ensures { λ _. ⌜ now (run .exit) ≡ over (marks (letters (now (text .entry)))) (now (run .entry)) ⌝ }
+    ensures { λ _. ⌜ now (run .exit) ≡ over (kanjiBits (letters (now (text .entry)))) (now (run .entry)) ⌝ }
 {
     let mut at = 0;
     let mut i = 0;
     while at < text.len() {
         let letter = known_letter(text, at);
         offset[i] = at as u32;
-        run[i] = mark_of(letter.code);
+        run[i] = kanji_bit(letter.code);
         at += letter.size;
         i += 1;
     }
@@ -353,15 +353,15 @@ fn fill_marks(text: &[u8], offset: &mut [u32], run: &mut [u16])
     run[i] = 0;
 }
 
-// The run at a place, by its mark and the run behind it.
-fn run_of(mark: u16, behind: u16) -> u16
+// The run at a place, by its kanji bit and the run behind it.
+fn run_of(bit: u16, behind: u16) -> u16
     requires { ⌜ behind < 65535 ⌝ }
-    ensures { λ r. ⌜ r ≡ runOf (marked mark) behind ⌝ }
+    ensures { λ r. ⌜ r ≡ runOf (isSet bit) behind ⌝ }
 {
-    if mark == 0 { 0 } else { 1 + behind }
+    if bit == 0 { 0 } else { 1 + behind }
 }
 
-// The first n places of the row, marks, made runs from the right.
+// The first n places of the row, kanji bits, made runs from the right.
 fn count_runs(run: &mut [u16], n: usize)
     requires { ⌜ (n < length (now run)) × (n ≤ characterLimit) × (getD (now run) n 0 ≡ 0) ⌝ }
     ensures { λ _. ⌜ now (run .exit) ≡ counted (take n (now (run .entry))) (drop n (now (run .entry))) ⌝ }
@@ -380,14 +380,14 @@ pub fn fill(text: &[u8], n: usize, offset: &mut [u32], run: &mut [u16])
     ensures { λ _. ⌜ now (offset .exit) ≡ over (offsets (letters (now (text .entry)))) (now (offset .entry)) ⌝ }
     ensures { λ _. ⌜ now (run .exit) ≡ over (runs (letters (now (text .entry)))) (now (run .entry)) ⌝ }
 {
-    fill_marks(text, offset, run);
+    fill_bits(text, offset, run);
     count_runs(run, n);
 }
 
 // The public operation "character table alone".
 pub fn characters(text: &[u8], offset: &mut [u32], run: &mut [u16]) -> Answer
     ensures { λ r. ⌜
-        table r (now (offset .exit)) (now (run .exit))
+        outcome r (now (offset .exit)) (now (run .exit))
         ≡ Rattle.ground.specs.Characters.characters (now (text .entry)) (now (offset .entry)) (now (run .entry))
         ⌝ }
 {

@@ -2,7 +2,7 @@
 use mathlib.Core.Path.{_∙_, ap}
 use borrow.Author.Needs.{needs}
 use Rattle.ground.specs.Answer.{numbersOf}
-use Rattle.ground.specs.Characters.{Table}
+use Rattle.ground.specs.Characters.{Outcome}
 use Rattle.jumelavorp.proofs.jumelavorp_characters.Statement.{statement}
 use Rattle.jumelavorp.proofs.jumelavorp_characters.Tie as tie
 
@@ -22,9 +22,9 @@ returns : tie.Need-returns
 returns c =
     let e = c .before .before .before .before .before .characters .ensures in
     record {
-      answers = c .numbers .ensures ∙ ap (λ (t : Table). numbersOf (t .answer)) e;
-      offsets = ap (λ (t : Table). t .offset) e;
-      runs = ap (λ (t : Table). t .run) e;
+      answers = c .numbers .ensures ∙ ap (λ (t : Outcome). numbersOf (t .answer)) e;
+      offsets = ap (λ (t : Outcome). t .offset) e;
+      runs = ap (λ (t : Outcome). t .run) e;
     }
 
 pub jumelavorp-characters-spec : {M : Type 1} → statement M

@@ -1,7 +1,6 @@
 -- The part that is lent is the row: from l × width to l × width + width are `width` values. Assumes nothing.
 use native.Mathlib.Nat.{add-sub-cancel-left}
 use borrow.Author.Needs.{needs}
-use Rattle.ground.specs.Matrix.{matrixRow}
 use Rattle.ground.proofs.matrix.row.Statement.{statement}
 use Rattle.ground.proofs.matrix.row.Tie as tie
 
@@ -24,7 +23,6 @@ part-result-end : tie.Need-part-result-end
 part-result-end c = search needs
 
 returns : tie.Need-returns
-unfolding matrixRow
 returns c = rw add-sub-cancel-left
 
 pub row-spec : {M : Type 1} → statement M

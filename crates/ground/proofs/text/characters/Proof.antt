@@ -9,7 +9,7 @@ use lib.ListN.{length}
 use lib.IntN.{pos}
 use mathlib.Core.List.{List}
 use Rattle.ground.specs.Characters
-use Rattle.ground.specs.Characters.{checked, refuse, table, short, filledUnless}
+use Rattle.ground.specs.Characters.{checked, refuse, outcome, short, filledUnless}
 use Rattle.ground.specs.Text.{letters}
 use Rattle.ground.specs.declared.answer.Answer.the-variants.{Done, ShortRow}
 use Rattle.ground.specs.declared.text.Checked.the-variants.{Passed, Refused}
@@ -87,8 +87,8 @@ returns-4 c =
     let f = c .before .before .before .before in
     let w = f .before .before .before .before .before .before in
     let s = at-check (at-passed w) .args in
-    ap (λ (k : ℕ). table (Done k (pos 0)) (f .fill .last .1 .1 .0) (f .fill .last .1 .1 .1 .0)) (passed (s .text .now) (n w) (tests w) .count)
-    ∙ ap₂ (λ (o r : List ℕ). table (Done (length (letters (s .text .now))) (pos 0)) o r) (f .fill .ensures .0) (f .fill .ensures .1)
+    ap (λ (k : ℕ). outcome (Done k (pos 0)) (f .fill .last .1 .1 .0) (f .fill .last .1 .1 .1 .0)) (passed (s .text .now) (n w) (tests w) .count)
+    ∙ ap₂ (λ (o r : List ℕ). outcome (Done (length (letters (s .text .now))) (pos 0)) o r) (f .fill .ensures .0) (f .fill .ensures .1)
     ∙ rows w false false (le-ltb (length (s .offset .now)) (n w + 1) (omega arith)) (le-ltb (length (s .run .now)) (n w + 1) (omega arith))
 
 pub characters-spec : {M : Type 1} → statement M

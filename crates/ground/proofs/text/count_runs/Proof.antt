@@ -6,7 +6,7 @@ use mathlib.Core.List.{_++_}
 use native.Mathlib.Omega.{arith}
 use lib.ListN.{length, take, getD, set, length-set}
 use lib.Seq.{getD-set-same}
-use Rattle.ground.specs.Filling.{marked, counted}
+use Rattle.ground.specs.Filling.{isSet, counted}
 use Rattle.ground.proofs.RowLaws.{behind, counted-none, counted-more, run-most}
 use Rattle.ground.proofs.text.count_runs.Statement.{statement}
 use Rattle.ground.proofs.text.count_runs.Tie as tie
@@ -70,7 +70,7 @@ loop-again c =
       length-set (l .run) j (c .run-of .result) ∙ l .inv .1,
       ap (λ (x : ℕ). set (l .run) j x) (c .run-of .ensures) ∙ counted-more (a .run .now) (a .n) (omega arith) (l .run) j (omega arith) before,
       rw (getD-set-same (l .run) j (c .run-of .result) 0 (omega arith))
-          (omega (arith, c .run-of .ensures, run-most (marked (getD (l .run) j 0)) (getD (l .run) (j + 1) 0))),
+          (omega (arith, c .run-of .ensures, run-most (isSet (getD (l .run) j 0)) (getD (l .run) (j + 1) 0))),
     )
 
 same-length : tie.Need-same-length Inv-loop μ-loop

@@ -7,9 +7,9 @@ use native.Mathlib.Omega.{arith}
 use lib.ListN.{length, drop, getD, length-drop}
 use Rattle.ground.specs.Text.{letterAt}
 use Rattle.ground.specs.Filling.{sizeByLead, letterOfSize}
-use Rattle.ground.specs.declared.text.Next.the-variants.{Whole}
+use Rattle.ground.specs.declared.text.Decoded.the-variants.{Whole}
 use Rattle.ground.proofs.LeadLaws.{lead-size}
-use Rattle.ground.proofs.LetterLaws.{letter-parts, unbroken, part-rest}
+use Rattle.ground.proofs.LetterLaws.{letter-parts, well-formed, part-rest}
 use Rattle.ground.proofs.text.known_letter.Statement.{statement}
 use Rattle.ground.proofs.text.known_letter.Tie as tie
 
@@ -19,7 +19,7 @@ bytes s = drop (s .args .at) (s .args .text .now)
 -- the character that stands there is told by its lead byte
 told : (s : tie.Start) → (letterAt (bytes s) ≡ Whole (letterOfSize (bytes s) (sizeByLead (getD (bytes s) 0 0)))) × (sizeByLead (getD (bytes s) 0 0) ≤ length (bytes s))
 told s =
-    let found = unbroken (bytes s) (s .pre .1) in
+    let found = well-formed (bytes s) (s .pre .1) in
     let p = letter-parts (bytes s) (found .0) (found .1) in
     let size : found .0 .size ≡ sizeByLead (getD (bytes s) 0 0) = p .size ∙ sym (lead-size (getD (bytes s) 0 0) (p .row) (p .lead)) in (
       found .1

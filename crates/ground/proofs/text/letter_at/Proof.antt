@@ -16,13 +16,13 @@ abbrev at-row : tie.After-row → tie.Start
 at-row c = c .before .before .before .before .before
 
 row-found : (c : tie.After-row) → leadRow leads (getD (at-row c .args .text .now) (at-row c .args .at) 0) ≡ Row (c .row .given .0 .0)
-row-found c = sym (c .before .before .row-of .ensures) ∙ c .row .given .1
+row-found c = sym (c .before .before .lead-row .ensures) ∙ c .row .given .1
 
-shared-slice-read-row-of : tie.Need-shared-slice-read-row-of
-shared-slice-read-row-of c = search needs
+shared-slice-read-lead-row : tie.Need-shared-slice-read-lead-row
+shared-slice-read-lead-row c = search needs
 
-row-of-requires : tie.Need-row-of-requires
-row-of-requires c κs = search needs
+lead-row-requires : tie.Need-lead-row-requires
+lead-row-requires c κs = search needs
 
 enum-known-row : tie.Need-enum-known-row
 enum-known-row c = search needs
@@ -59,14 +59,14 @@ returns-2 c =
     let a = c .before .before .before .before .before .args in
     let bytes = drop (a .at) (a .text .now) in
     sym ((letter-row bytes NoRow (omega (arith, length-drop (a .at) (a .text .now)))
-    (ap (λ (b : ℕ). leadRow leads b) (part-first (a .text .now) (a .at)) ∙ sym (c .before .before .row-of .ensures) ∙ c .enum-told .given .1)))
+    (ap (λ (b : ℕ). leadRow leads b) (part-first (a .text .now) (a .at)) ∙ sym (c .before .before .lead-row .ensures) ∙ c .enum-told .given .1)))
 
 pub letter-at-spec : {M : Type 1} → statement M
 letter-at-spec =
     tie.close
     (tie.spec
-    shared-slice-read-row-of
-    row-of-requires
+    shared-slice-read-lead-row
+    lead-row-requires
     enum-known-row
     sub-letter-by
     part-letter-by-start

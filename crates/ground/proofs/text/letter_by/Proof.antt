@@ -8,7 +8,7 @@ use borrow.Author.Tests.{not-true, not-false}
 use native.Mathlib.Omega.{arith}
 use lib.ListN.{length, take, drop, getD, length-take, length-drop}
 use Rattle.ground.specs.Text.{leadBits, sixBits, letterOf}
-use Rattle.ground.specs.declared.text.Next.the-variants.{Whole, Broken}
+use Rattle.ground.specs.declared.text.Decoded.the-variants.{Whole, IllFormed}
 use Rattle.ground.proofs.LetterLaws.{too-short, judged}
 use Rattle.ground.proofs.text.letter_by.Statement.{statement}
 use Rattle.ground.proofs.text.letter_by.Tie as tie
@@ -27,13 +27,13 @@ decided : (c : tie.After-may-follow) (t : Bool) → c .may-follow .result ≡ t
     → letterOf (c .before .before .before .args .row) (first (c .before .before .before)) (following (c .before .before .before))
     ≡ cond t
     (Whole (record { size = c .before .before .before .args .row .size; code = sixBits (leadBits (c .before .before .before .args .row .size - 1) (first (c .before .before .before))) (following (c .before .before .before)) }))
-    Broken
+    IllFormed
 decided c t e =
     let s = c .before .before .before in
     let row = s .args .row in
     let long : length (following s) ≡ row .size - 1 = omega (arith, following-length s) in
     judged row (first s) (following s) (omega arith) t (sym (c .may-follow .ensures) ∙ e)
-    ∙ ap (λ (k : ℕ). cond t (Whole (record { size = row .size; code = sixBits (leadBits k (first s)) (following s) })) Broken) long
+    ∙ ap (λ (k : ℕ). cond t (Whole (record { size = row .size; code = sixBits (leadBits k (first s)) (following s) })) IllFormed) long
 
 returns : tie.Need-returns
 returns c =
@@ -46,13 +46,13 @@ may-follow-requires c κs = search needs
 returns-2 : tie.Need-returns-2
 returns-2 c = sym ((decided (c .before) false (not-true (c .before .may-follow .result) (c .if2 .taken))))
 
-letter-of-requires : tie.Need-letter-of-requires
-letter-of-requires c κs = search needs
+letter-of-size-requires : tie.Need-letter-of-size-requires
+letter-of-size-requires c κs = search needs
 
 returns-3 : tie.Need-returns-3
 returns-3 c =
     let m = c .before .before in
-    ap Whole (c .letter-of .ensures) ∙ sym (decided m true (not-false (m .may-follow .result) (c .before .if2 .left)))
+    ap Whole (c .letter-of-size .ensures) ∙ sym (decided m true (not-false (m .may-follow .result) (c .before .if2 .left)))
 
 pub letter-by-spec : {M : Type 1} → statement M
-letter-by-spec = tie.close (tie.spec returns may-follow-requires returns-2 letter-of-requires returns-3)
+letter-by-spec = tie.close (tie.spec returns may-follow-requires returns-2 letter-of-size-requires returns-3)

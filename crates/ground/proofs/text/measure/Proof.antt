@@ -6,9 +6,9 @@ use borrow.Author.Needs.{needs}
 use native.Mathlib.Omega.{arith}
 use lib.ListN.{length, drop}
 use Rattle.ground.specs.Text.{letterAt, letters, sizes}
-use Rattle.ground.specs.declared.text.Next.the-variants.{Whole}
+use Rattle.ground.specs.declared.text.Decoded.the-variants.{Whole}
 use Rattle.ground.proofs.LetterLaws.{letter-ends}
-use Rattle.ground.proofs.TextLaws.{letters-next, letters-end, letters-broken}
+use Rattle.ground.proofs.TextLaws.{letters-next, letters-end, letters-ill-formed}
 use Rattle.ground.proofs.text.measure.Statement.{statement}
 use Rattle.ground.proofs.text.measure.Tie as tie
 
@@ -39,7 +39,7 @@ unfolding sizes
 returns c =
     let l = c .before .before .before .before in
     let text = l .before .before .args .text .now in
-    let none = letters-broken (drop (l .loop .at) text) (sym (c .before .before .letter-at .ensures) ∙ c .enum-told .given .1) in
+    let none = letters-ill-formed (drop (l .loop .at) text) (sym (c .before .before .letter-at .ensures) ∙ c .enum-told .given .1) in
     omega (arith, ap length none, ap sizes none)
 
 abbrev at-letter : tie.After-letter Inv-loop μ-loop → tie.At-loop Inv-loop μ-loop

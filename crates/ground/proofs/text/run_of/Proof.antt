@@ -8,10 +8,10 @@ add-result : tie.Need-add-result
 add-result c = search needs
 
 returns : tie.Need-returns
-returns c = rw (eq-eqb (c .before .args .mark) 0 (c .if1 .taken))
+returns c = rw (eq-eqb (c .before .args .bit) 0 (c .if1 .taken))
 
 returns-2 : tie.Need-returns-2
-returns-2 c = rw (ne-eqb (c .before .args .mark) 0 (c .if1 .left))
+returns-2 c = rw (ne-eqb (c .before .args .bit) 0 (c .if1 .left))
 
 pub run-of-spec : {M : Type 1} → statement M
 run-of-spec = tie.close (tie.spec add-result returns returns-2)

@@ -4,7 +4,7 @@ use native.Mathlib.Omega.{arith}
 use borrow.Author.Needs.{needs}
 use borrow.Author.Tests.{le-leb, lt-leb}
 use mir.Syntax.{w32}
-use Rattle.ground.specs.Charge.{charge, Priced}
+use Rattle.ground.specs.Charge.{charge, PricesFit}
 use Rattle.ground.proofs.SignedLaws.{back}
 use Rattle.ground.proofs.charge.Mode.charge.Statement.{statement}
 use Rattle.ground.proofs.charge.Mode.charge.Tie as tie
@@ -15,11 +15,11 @@ enum-told c = search needs
 enum-known-self : tie.Need-enum-known-self
 enum-known-self c = search needs
 
-charged-above-requires : tie.Need-charged-above-requires
-charged-above-requires c κs = subst Priced (c .before .before .self .given .1) (c .before .before .before .before .pre) .0
+above-requires : tie.Need-above-requires
+above-requires c κs = subst PricesFit (c .before .before .self .given .1) (c .before .before .before .before .pre) .0
 
-charged-above-requires-2 : tie.Need-charged-above-requires-2
-charged-above-requires-2 c κs = subst Priced (c .before .before .self .given .1) (c .before .before .before .before .pre) .1
+above-requires-2 : tie.Need-above-requires-2
+above-requires-2 c κs = subst PricesFit (c .before .before .self .given .1) (c .before .before .before .before .pre) .1
 
 returns : tie.Need-returns
 unfolding charge
@@ -30,14 +30,14 @@ unfolding charge
 returns-2 c =
     let s = c .before .before .before .before .before .args in
     rw (c .before .before .before .self .given .1, le-leb (s .len) (s .run) (omega arith))
-    (back w32 (c .charged-above .result) (c .charged-above .ok) ∙ c .charged-above .ensures)
+    (back w32 (c .above .result) (c .above .ok) ∙ c .above .ensures)
 
 returns-3 : tie.Need-returns-3
 unfolding charge
 returns-3 c =
     let s = c .before .before .before .before .before .args in
     rw (c .before .before .before .self .given .1, lt-leb (s .len) (s .run) (omega arith))
-    (back w32 (c .charged-above2 .result) (c .charged-above2 .ok) ∙ c .charged-above2 .ensures)
+    (back w32 (c .above2 .result) (c .above2 .ok) ∙ c .above2 .ensures)
 
 pub charge-spec : {M : Type 1} → statement M
 charge-spec =
@@ -45,8 +45,8 @@ charge-spec =
     (tie.spec
     enum-told
     enum-known-self
-    charged-above-requires
-    charged-above-requires-2
+    above-requires
+    above-requires-2
     returns
     returns-2
     returns-3)

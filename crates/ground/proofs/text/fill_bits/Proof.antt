@@ -6,13 +6,13 @@ use borrow.Author.Needs.{needs}
 use native.Mathlib.Omega.{arith}
 use lib.ListN.{length, drop, set, length-set}
 use Rattle.ground.specs.Text.{letters, offsets}
-use Rattle.ground.specs.Filling.{marks}
+use Rattle.ground.specs.Filling.{kanjiBits}
 use Rattle.ground.proofs.Filled.{Filled, filled-none, filled-more, filled-all}
 use Rattle.ground.proofs.LetterLaws.{letter-ends}
-use Rattle.ground.proofs.TextLaws.{not-broken}
-use Rattle.ground.proofs.RowLaws.{sets-over, offsets-length, marks-length}
-use Rattle.ground.proofs.text.fill_marks.Statement.{statement}
-use Rattle.ground.proofs.text.fill_marks.Tie as tie
+use Rattle.ground.proofs.TextLaws.{not-ill-formed}
+use Rattle.ground.proofs.RowLaws.{sets-over, offsets-length, bits-length}
+use Rattle.ground.proofs.text.fill_bits.Statement.{statement}
+use Rattle.ground.proofs.text.fill_bits.Tie as tie
 
 abbrev Inv-loop : tie.InvT-loop
 Inv-loop text offset₀ run₀ at₀ i₀ offset run at i = Filled text offset₀ run₀ offset run at i
@@ -37,7 +37,7 @@ rest l = drop (l .loop .at) (text l)
 known-letter-requires : tie.Need-known-letter-requires Inv-loop μ-loop
 known-letter-requires c κs =
     let l = c .before in
-    (omega arith, not-broken (rest l) (omega arith))
+    (omega arith, not-ill-formed (rest l) (omega arith))
 
 cast-offset : tie.Need-cast-offset Inv-loop μ-loop
 cast-offset c = omega arith
@@ -48,8 +48,8 @@ mul-offset c = omega arith
 slice-write-offset : tie.Need-slice-write-offset Inv-loop μ-loop
 slice-write-offset c = omega arith
 
-mark-of-requires : tie.Need-mark-of-requires Inv-loop μ-loop
-mark-of-requires c κs = search needs
+kanji-bit-requires : tie.Need-kanji-bit-requires Inv-loop μ-loop
+kanji-bit-requires c κs = search needs
 
 mul-run : tie.Need-mul-run Inv-loop μ-loop
 mul-run c = omega arith
@@ -78,7 +78,7 @@ loop-again c =
     subst
     (λ (mark : ℕ). Filled (text l) (a .offset .now) (a .run .now) (set (l .loop .offset) (l .loop .i) (l .loop .at))
     (set (l .loop .run) (l .loop .i) mark) (l .loop .at + w .known-letter .result .size) (l .loop .i + 1))
-    (sym (c .before .mark-of .ensures))
+    (sym (c .before .kanji-bit .ensures))
     (filled-more (text l) (a .offset .now) (a .run .now) (l .loop .offset) (l .loop .run) (l .loop .at) (l .loop .i) (w .known-letter .result) (w .known-letter .ensures) (l .loop .inv))
 
 cast-offset-2 : tie.Need-cast-offset-2 Inv-loop μ-loop
@@ -109,11 +109,11 @@ returns c =
     let ls = letters (text l) in
     let all = filled-all (text l) (a .offset .now) (a .run .now) (l .loop .offset) (l .loop .run) (l .loop .at) (l .loop .i) (omega arith) (l .loop .inv) in (
       all .0 ∙ sets-over (offsets ls) (a .offset .now) (omega (arith, offsets-length 0 ls)),
-      all .1 ∙ sets-over (marks ls) (a .run .now) (omega (arith, marks-length ls)),
+      all .1 ∙ sets-over (kanjiBits ls) (a .run .now) (omega (arith, bits-length ls)),
     )
 
-pub fill-marks-spec : {M : Type 1} → statement M
-fill-marks-spec =
+pub fill-bits-spec : {M : Type 1} → statement M
+fill-bits-spec =
     tie.close
     (tie.spec
     Inv-loop
@@ -123,7 +123,7 @@ fill-marks-spec =
     cast-offset
     mul-offset
     slice-write-offset
-    mark-of-requires
+    kanji-bit-requires
     mul-run
     slice-write-run
     add-at

@@ -11,8 +11,8 @@ use Rattle.ground.specs.Text.{lead, leads, leadRow}
 use Rattle.ground.specs.declared.text.Lead.{Lead}
 use Rattle.ground.specs.declared.text.LeadFound.the-variants.{Row}
 use Rattle.ground.proofs.LeadLaws.{row-here}
-use Rattle.ground.proofs.text.row_of.Statement.{statement}
-use Rattle.ground.proofs.text.row_of.Tie as tie
+use Rattle.ground.proofs.text.lead_row.Statement.{statement}
+use Rattle.ground.proofs.text.lead_row.Tie as tie
 
 abbrev none : Lead
 none = lead 0 0 0 0 0
@@ -63,8 +63,8 @@ returns-2 : tie.Need-returns-2 Inv-loop μ-loop
 unfolding leads leadRow
 returns-2 c = ap (λ (l : List Lead). leadRow l (c .before .before .args .byte)) (sym (drop-of-length-le leads {i = c .before .loop .i} (omega arith))) ∙ c .before .loop .inv .1
 
-pub row-of-spec : {M : Type 1} → statement M
-row-of-spec =
+pub lead-row-spec : {M : Type 1} → statement M
+lead-row-spec =
     tie.close
     (tie.spec
     Inv-loop

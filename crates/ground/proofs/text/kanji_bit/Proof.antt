@@ -4,8 +4,8 @@ use mathlib.Core.Path.{ap₂, _∙_}
 use borrow.Author.Needs.{needs}
 use native.Mathlib.Omega.{arith}
 use Rattle.ground.proofs.RangeLaws.{blocks}
-use Rattle.ground.proofs.text.mark_of.Statement.{statement}
-use Rattle.ground.proofs.text.mark_of.Tie as tie
+use Rattle.ground.proofs.text.kanji_bit.Statement.{statement}
+use Rattle.ground.proofs.text.kanji_bit.Tie as tie
 
 in-block-requires : tie.Need-in-block-requires
 in-block-requires c κs = search needs
@@ -21,5 +21,5 @@ returns c =
     ap₂ _+_ (c .before .in-block .ensures .0) (c .in-block2 .ensures .0)
     ∙ blocks 0x4e00 0x9faf 0x3400 0x4dbf (c .before .before .args .code) (omega arith)
 
-pub mark-of-spec : {M : Type 1} → statement M
-mark-of-spec = tie.close (tie.spec in-block-requires in-block-requires-2 add-result returns)
+pub kanji-bit-spec : {M : Type 1} → statement M
+kanji-bit-spec = tie.close (tie.spec in-block-requires in-block-requires-2 add-result returns)

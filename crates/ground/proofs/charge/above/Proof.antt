@@ -7,8 +7,8 @@ use borrow.Author.Tests.{lt-ltb, le-ltb}
 use borrow.Author.Needs.{needs}
 use mir.Syntax.{w32}
 use Rattle.ground.proofs.SignedLaws.{back}
-use Rattle.ground.proofs.charge.charged_above.Statement.{statement}
-use Rattle.ground.proofs.charge.charged_above.Tie as tie
+use Rattle.ground.proofs.charge.above.Statement.{statement}
+use Rattle.ground.proofs.charge.above.Tie as tie
 
 sub-whole : tie.Need-sub-whole
 sub-whole c = search needs
@@ -34,6 +34,6 @@ returns c =
 returns-2 : tie.Need-returns-2
 returns-2 c = rw (le-ltb (c .before .args .threshold) (c .before .args .len) (omega arith))
 
-pub charged-above-spec : {M : Type 1} → statement M
-charged-above-spec =
+pub above-spec : {M : Type 1} → statement M
+above-spec =
     tie.close (tie.spec sub-whole cast-whole mul-whole whole-requires returns returns-2)
