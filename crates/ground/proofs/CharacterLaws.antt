@@ -5,14 +5,13 @@ use mathlib.Core.Bool.{Bool, true, false, not, _||_}
 use mathlib.Core.List.{List, [], _∷_, map}
 use mathlib.Core.Option.{Option, none, some, orElse}
 use native.Mathlib.Omega.{arith}
-use lib.ListN.{length, replicate}
+use lib.ListN.{length}
 use lib.IntN.{pos}
 use lib.Dec.{ltb}
 use borrow.Author.Tests.{ltb-false, eqb-true}
 use Rattle.ground.specs.Limits.{textLimit, characterLimit}
 use Rattle.ground.specs.Text.{leads, leadRow, allLater, sixBits, letterAt, lettersIn, letters, sizes, wellFormed, offsetsFrom, offsets, runs}
-use Rattle.ground.specs.Characters.{refuse, textRefused, checkedBy, checked, Outcome, outcome, short, filledUnless, characters}
-use Rattle.ground.specs.Filling.{Sound}
+use Rattle.ground.specs.Characters.{refuse, textRefused, checkedBy, checked, Sound, Outcome, outcome, short, filledUnless, characters}
 use Rattle.ground.specs.declared.answer.Answer.{Answer}
 use Rattle.ground.specs.declared.answer.Answer.the-variants.{Done, TooLong, NotUtf8, ShortRow}
 use Rattle.ground.specs.declared.text.Checked.{Checked}
@@ -85,7 +84,8 @@ lengths text offset run = go (checked text) refl
         rw (← by-tests text offset run (Passed k) e, passed text k e .count)
         (filled (short (length (letters text)) offset) (short (length (letters text)) run) refl refl)
 
--- Document 01's example L, and B's text: a surrogate, an overlong form, the last code point, three kanji. The rows hold 7 before.
+-- Document 01's example L (a surrogate, an overlong form, the last code point) and B's text (three kanji); then no text, a run that is
+-- broken, and a text with one character too many for the rows. These have five places, which hold 7 before.
 examples : List (List ℕ)
 examples =
     (0xed ∷ 0xa0 ∷ 0x80 ∷ [])
@@ -93,13 +93,22 @@ examples =
     ∷ (0xf4 ∷ 0x8f ∷ 0xbf ∷ 0xbf ∷ [])
     ∷ (0xe6 ∷ 0x9d ∷ 0xb1 ∷ 0xe4 ∷ 0xba ∷ 0xac ∷ 0xe9 ∷ 0x83 ∷ 0xbd ∷ [])
     ∷ []
+    ∷ (0xe6 ∷ 0x9d ∷ 0xb1 ∷ 0x61 ∷ 0xe4 ∷ 0xba ∷ 0xac ∷ [])
+    ∷ (0x61 ∷ 0x61 ∷ 0x61 ∷ 0x61 ∷ 0x61 ∷ [])
+    ∷ []
+
+sevens : List ℕ
+sevens = 7 ∷ 7 ∷ 7 ∷ 7 ∷ 7 ∷ []
 
 example-L :
-    map (λ (text : List ℕ). characters text (replicate 5 7) (replicate 5 7)) examples
-    ≡ outcome (NotUtf8 0) (7 ∷ 7 ∷ 7 ∷ 7 ∷ 7 ∷ []) (7 ∷ 7 ∷ 7 ∷ 7 ∷ 7 ∷ [])
-    ∷ outcome (NotUtf8 1) (7 ∷ 7 ∷ 7 ∷ 7 ∷ 7 ∷ []) (7 ∷ 7 ∷ 7 ∷ 7 ∷ 7 ∷ [])
+    map (λ (text : List ℕ). characters text sevens sevens) examples
+    ≡ outcome (NotUtf8 0) sevens sevens
+    ∷ outcome (NotUtf8 1) sevens sevens
     ∷ outcome (Done 1 (pos 0)) (0 ∷ 4 ∷ 7 ∷ 7 ∷ 7 ∷ []) (0 ∷ 0 ∷ 7 ∷ 7 ∷ 7 ∷ [])
     ∷ outcome (Done 3 (pos 0)) (0 ∷ 3 ∷ 6 ∷ 9 ∷ 7 ∷ []) (3 ∷ 2 ∷ 1 ∷ 0 ∷ 7 ∷ [])
+    ∷ outcome (Done 0 (pos 0)) (0 ∷ 7 ∷ 7 ∷ 7 ∷ 7 ∷ []) (0 ∷ 7 ∷ 7 ∷ 7 ∷ 7 ∷ [])
+    ∷ outcome (Done 3 (pos 0)) (0 ∷ 3 ∷ 4 ∷ 7 ∷ 7 ∷ []) (1 ∷ 0 ∷ 1 ∷ 0 ∷ 7 ∷ [])
+    ∷ outcome ShortRow sevens sevens
     ∷ []
-unfolding examples characters orElse letters lettersIn letterAt leads leadRow allLater sixBits sizes offsetsFrom runs
+unfolding examples sevens characters orElse letters lettersIn letterAt leads leadRow allLater sixBits sizes offsetsFrom runs
 example-L = refl

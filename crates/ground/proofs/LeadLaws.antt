@@ -1,9 +1,9 @@
 -- The table of lead bytes: its rule is one test that antt computes over all nine rows, and laws that turn it into what holds of the row
 -- that is found. Assumes nothing.
 use Prim.Native.Nat.{ℕ, suc, _≤_, _<_}
-use mathlib.Core.Path.{_≡_, refl, ap, _∙_}
+use mathlib.Core.Path.{_≡_, refl, ap, _∙_, sym}
 use mathlib.Core.Bool.{Bool, true, false, cond, _&&_}
-use mathlib.Core.List.{List, [], _∷_, List·Memᴰ, List·Memᴰ·not-nil, List·Memᴰ·cases-cons}
+use mathlib.Core.List.{List, [], _∷_, List·Memᴰ, List·Memᴰ·head, List·Memᴰ·tail, List·Memᴰ·not-nil, List·Memᴰ·cases-cons}
 use mathlib.Core.Logic.{⊎-elim}
 use native.Mathlib.Omega.{arith}
 use lib.Dec.{leb, ltb, eqb}
@@ -25,16 +25,23 @@ both : (a b : Bool) → (a && b) ≡ true → (a ≡ true) × (b ≡ true)
 both true b e = (refl, e)
 both false b e = absurd (mathlib.Core.Bool.false≢true e)
 
--- what a test says of every row it says of the row that is found
-pub found : (test : Lead → Bool) (rows : List Lead) → every test rows ≡ true
-    → (byte : ℕ) (row : Lead) → leadRow rows byte ≡ Row row → test row ≡ true
+-- what a test says of every row it says of a row of the table
+every-member : (test : Lead → Bool) (rows : List Lead) → every test rows ≡ true → (row : Lead) → List·Memᴰ row rows → test row ≡ true
+every-member test [] e row m = absurd (List·Memᴰ·not-nil m)
+every-member test (first ∷ rows) e row m =
+    let b = both (test first) (every test rows) e in
+    ⊎-elim (λ (q : row ≡ first). rw q (b .0)) (λ (n : List·Memᴰ row rows). every-member test rows (b .1) row n) (List·Memᴰ·cases-cons m)
+
+-- the row that is found is a row of the table, and has the byte
+found : (rows : List Lead) (byte : ℕ) (row : Lead) → leadRow rows byte ≡ Row row → List·Memᴰ row rows × (isLead row byte ≡ true)
 unfolding leadRow
-found test [] e byte row f = let z : _≡_ {A = ℕ} 0 1 = cc in absurd (omega arith)
-found test (first ∷ rows) e byte row f = go (isLead first byte) f (found test rows (both (test first) (every test rows) e .1) byte row)
+found [] byte row f = let z : _≡_ {A = ℕ} 0 1 = cc in absurd (omega arith)
+found (first ∷ rows) byte row f = go (isLead first byte) refl f (found rows byte row)
   where
-    go : (t : Bool) → cond t (Row first) (leadRow rows byte) ≡ Row row → (leadRow rows byte ≡ Row row → test row ≡ true) → test row ≡ true
-    go true f more = let q : first ≡ row = cc in rw (← q) (both (test first) (every test rows) e .0)
-    go false f more = more f
+    go : (t : Bool) → isLead first byte ≡ t → cond t (Row first) (leadRow rows byte) ≡ Row row
+        → (leadRow rows byte ≡ Row row → List·Memᴰ row rows × (isLead row byte ≡ true)) → List·Memᴰ row (first ∷ rows) × (isLead row byte ≡ true)
+    go true e f more = let q : first ≡ row = cc in (List·Memᴰ·head (sym q), rw (← q) e)
+    go false e f more = let m = more f in (List·Memᴰ·tail (m .0), m .1)
 
 -- the rows from i on find the i-th where it has the byte, and otherwise what those behind it find
 pub row-here : (rows : List Lead) (i : ℕ) (none : Lead) (byte : ℕ) → i < length rows → (t : Bool) → isLead (getD rows i none) byte ≡ t
@@ -44,29 +51,12 @@ row-here rows i none byte h t e =
     ap (λ (l : List Lead). leadRow l byte) (drop-cons rows i none h)
     ∙ ap (λ (b : Bool). cond b (Row (getD rows i none)) (leadRow (drop (suc i) rows) byte)) e
 
--- the row that is found has the byte
-pub row-lead : (rows : List Lead) (byte : ℕ) (row : Lead) → leadRow rows byte ≡ Row row → isLead row byte ≡ true
-unfolding leadRow
-row-lead [] byte row f = let z : _≡_ {A = ℕ} 0 1 = cc in absurd (omega arith)
-row-lead (first ∷ rows) byte row f = go (isLead first byte) refl f (row-lead rows byte row)
-  where
-    go : (t : Bool) → isLead first byte ≡ t → cond t (Row first) (leadRow rows byte) ≡ Row row → (leadRow rows byte ≡ Row row → isLead row byte ≡ true)
-        → isLead row byte ≡ true
-    go true e f more = let q : first ≡ row = cc in rw (← q) e
-    go false e f more = more f
-
 -- No row's lead bytes reach up to those of a row behind it.
 abbrev apart : List Lead → Bool
 apart [] = true
 apart (row ∷ rows) = every (λ (later : Lead). ltb (row .high) (later .low)) rows && apart rows
 
-every-member : (test : Lead → Bool) (rows : List Lead) → every test rows ≡ true → (row : Lead) → List·Memᴰ row rows → test row ≡ true
-every-member test [] e row m = absurd (List·Memᴰ·not-nil m)
-every-member test (first ∷ rows) e row m =
-    let b = both (test first) (every test rows) e in
-    ⊎-elim (λ (q : row ≡ first). rw q (b .0)) (λ (n : List·Memᴰ row rows). every-member test rows (b .1) row n) (List·Memᴰ·cases-cons m)
-
--- So the row that has a byte is the one that is found, whatever the order of the rows.
+-- So, in rows that rise, the row that has a byte is the one that is found.
 only : (rows : List Lead) → apart rows ≡ true → (byte : ℕ) (row : Lead) → List·Memᴰ row rows → isLead row byte ≡ true → leadRow rows byte ≡ Row row
 unfolding leadRow
 only [] a byte row m e = absurd (List·Memᴰ·not-nil m)
@@ -98,7 +88,7 @@ rule row = within 1 4 (row .size) && (eqb (sizeByLead (row .low)) (row .size) &&
 
 holds : (byte : ℕ) (row : Lead) → leadRow leads byte ≡ Row row → rule row ≡ true
 unfolding leads rule
-holds byte row f = found rule leads refl byte row f
+holds byte row f = every-member rule leads refl row (found leads byte row f .0)
 
 pub row-size : (byte : ℕ) (row : Lead) → leadRow leads byte ≡ Row row → (1 ≤ row .size) × (row .size ≤ 4)
 unfolding rule
@@ -117,7 +107,7 @@ unfolding rule
 lead-size byte row f =
     let r = both (within 1 4 (row .size)) (eqb (sizeByLead (row .low)) (row .size) && eqb (sizeByLead (row .high)) (row .size)) (holds byte row f) in
     let ends = both (eqb (sizeByLead (row .low)) (row .size)) (eqb (sizeByLead (row .high)) (row .size)) (r .1) in
-    let w = both (leb (row .low) byte) (leb byte (row .high)) (row-lead leads byte row f) in
+    let w = both (leb (row .low) byte) (leb byte (row .high)) (found leads byte row f .1) in
     omega (
       arith,
       eqb-true (sizeByLead (row .low)) (row .size) (ends .0),

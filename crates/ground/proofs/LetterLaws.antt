@@ -7,9 +7,10 @@ use native.Mathlib.Omega.{arith}
 use native.Mathlib.Nat.{add-zero}
 use lib.Dec.{eqb}
 use lib.ListN.{length, take, drop, getD, length-take, length-drop}
-use lib.Seq.{drop-cons, take-all, getD-drop}
+use lib.Seq.{drop-cons, length-take-le, take-all, getD-drop}
 use borrow.Author.Tests.{eqb-true, eq-eqb, ne-eqb}
-use Rattle.ground.specs.Text.{leads, leadRow, isSecond, isLater, allLater, mayFollow, leadBits, sixBits, letterOf, letterBy, letterAt}
+use Rattle.ground.specs.Text.{leads, leadRow, isSecond, isLater, allLater, mayFollow, leadBits, sixBits, codeOf, letterOf, letterBy, letterAt}
+use Rattle.ground.specs.Filling.{letterOfSize}
 use Rattle.ground.specs.declared.text.Lead.{Lead}
 use Rattle.ground.specs.declared.text.LeadFound.{LeadFound}
 use Rattle.ground.specs.declared.text.LeadFound.the-variants.{Row, NoRow}
@@ -25,7 +26,7 @@ too-short row byte following h = rw (ne-eqb (suc (length following)) (row .size)
 -- with as many bytes as the row says, what follows the lead byte decides
 pub judged : (row : Lead) (byte : ℕ) (following : List ℕ) → suc (length following) ≡ row .size → (t : Bool) → mayFollow row following ≡ t
     → letterOf row byte following
-    ≡ cond t (Whole (record { size = row .size; code = sixBits (leadBits (length following) byte) following })) IllFormed
+    ≡ cond t (Whole (record { size = row .size; code = codeOf byte following })) IllFormed
 judged row byte following e t m = rw (eq-eqb (suc (length following)) (row .size) e, m)
 
 -- the row of the first byte decides
@@ -40,7 +41,7 @@ pub record Parts (bytes : List ℕ) (letter : Letter) : Type 0 where
   pub row : Lead
   pub lead : leadRow leads (getD bytes 0 0) ≡ Row row
   pub size : letter .size ≡ row .size
-  pub code : letter .code ≡ sixBits (leadBits (letter .size - 1) (getD bytes 0 0)) (take (letter .size - 1) (drop 1 bytes))
+  pub code : letter .code ≡ letterOfSize bytes (letter .size) .code
   pub enough : letter .size ≤ length bytes
 
 pub letter-parts : (bytes : List ℕ) (letter : Letter) → letterAt bytes ≡ Whole letter → Parts bytes letter
@@ -50,19 +51,18 @@ letter-parts (byte ∷ rest) letter e = go (leadRow leads byte) refl e
   where
     made : (row : Lead) → leadRow leads byte ≡ Row row → (following : List ℕ) → following ≡ take (row .size - 1) rest
         → (t : Bool) → eqb (suc (length following)) (row .size) ≡ t
-        → (m : Bool) → cond (t && m) (Whole (record { size = row .size; code = sixBits (leadBits (length following) byte) following })) IllFormed ≡ Whole letter
+        → (m : Bool) → cond (t && m) (Whole (record { size = row .size; code = codeOf byte following })) IllFormed ≡ Whole letter
         → Parts (byte ∷ rest) letter
     made row f following l true t true w =
         let long : suc (length following) ≡ row .size = eqb-true (suc (length following)) (row .size) t in
         let size : letter .size ≡ row .size = cc in
-        let code : letter .code ≡ sixBits (leadBits (length following) byte) following = cc in
-        let k : length following ≡ letter .size - 1 = omega arith in
+        let code : letter .code ≡ codeOf byte following = cc in
         let same : following ≡ take (letter .size - 1) rest = l ∙ ap (λ (n : ℕ). take (n - 1) rest) (sym size) in
         record {
           row = row;
           lead = f;
           size = size;
-          code = code ∙ ap (λ (n : ℕ). sixBits (leadBits n byte) following) k ∙ ap (λ (bs : List ℕ). sixBits (leadBits (letter .size - 1) byte) bs) same;
+          code = code ∙ ap (λ (bs : List ℕ). codeOf byte bs) same;
           enough = omega (arith, ap length l, length-take (row .size - 1) rest);
         }
     made row f following l true t false w = let z : _≡_ {A = ℕ} 0 1 = cc in absurd (omega arith)
@@ -106,6 +106,13 @@ pub follow-later : (bytes : List ℕ) (k i : ℕ) → i < length bytes
     → allLater (take (suc k) (drop i bytes)) ≡ (isLater (getD bytes i 0) && allLater (take k (drop (suc i) bytes)))
 unfolding allLater
 follow-later bytes k i h = ap (λ (l : List ℕ). allLater l) (take-drop k i bytes h)
+
+-- a code point's lead bits go by the number of its bytes
+pub code-sized : (bytes : List ℕ) (size : ℕ) → 1 ≤ size → size ≤ length bytes
+    → letterOfSize bytes size .code ≡ sixBits (leadBits (size - 1) (getD bytes 0 0)) (take (size - 1) (drop 1 bytes))
+code-sized bytes size l h =
+    ap (λ (k : ℕ). sixBits (leadBits k (getD bytes 0 0)) (take (size - 1) (drop 1 bytes)))
+    (length-take-le (size - 1) (drop 1 bytes) (omega (arith, length-drop 1 bytes)))
 
 -- the bits of a character, one byte at a time
 pub six-next : (bytes : List ℕ) (k i code : ℕ) → i < length bytes

@@ -1,4 +1,4 @@
--- Document 01, "Answer numbers": what each answer returns.
+-- Document 01, "Answer numbers": what each answer that this layer gives (0, 1, 2, 7) returns.
 use Prim.Native.Nat.{ℕ}
 use lib.IntN.{pos}
 use Rattle.ground.specs.declared.answer.Answer.{Answer}

@@ -1,5 +1,6 @@
 -- The public operation "character table alone": its tests in document 01's order, and its whole effect.
-use Prim.Native.Nat.{ℕ, _+_}
+use Prim.Native.Nat.{ℕ, _+_, _≤_}
+use mathlib.Core.Path.{_≡_}
 use mathlib.Core.Bool.{Bool, true, false, not, _||_}
 use mathlib.Core.List.{List}
 use mathlib.Core.Option.{Option, none, some, orElse}
@@ -34,6 +35,13 @@ checkedBy (some answer) n = Refused answer
 -- What the tests of a text tell.
 unfoldable pub checked : List ℕ → Checked
 checked text = checkedBy (textRefused text) (length (letters text))
+
+-- A text that passes them: within both limits, well formed, and of n characters (`passed` in CharacterLaws).
+pub record Sound (text : List ℕ) (n : ℕ) : Type 0 where
+  pub bytes : length text ≤ textLimit
+  pub whole : sizes (letters text) ≡ length text
+  pub count : n ≡ length (letters text)
+  pub few : n ≤ characterLimit
 
 -- What a call leaves: the answer, and the two rows after it.
 pub record Outcome : Type 0 where

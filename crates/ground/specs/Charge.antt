@@ -20,7 +20,7 @@ charge Normal run len = 0
 charge (Decompose p) run len =
     cond (kanjiOnly run len) (above len (p .«kanji_threshold») (p .«kanji_price»)) (above len (p .«other_threshold») (p .«other_price»))
 
--- The prices of a mode that passed the job's tests.
+-- The prices are within the limit (answer 6); in Normal they are not looked at.
 abbrev pub PricesFit : Mode → Type 0
 PricesFit Normal = Unit {0}
 PricesFit (Decompose p) = (p .«kanji_price» ≤ priceLimit) × (p .«other_price» ≤ priceLimit)

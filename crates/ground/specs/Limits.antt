@@ -1,4 +1,4 @@
--- Document 01, "Largest sizes". Each stands here once.
+-- Document 01, "Largest sizes": those that this crate tests, each once. (Thresholds are held by u16; c, height and width stand where they are tested.)
 use Prim.Native.Nat.{ℕ}
 
 -- Bytes of a text.

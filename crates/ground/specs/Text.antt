@@ -22,7 +22,7 @@ abbrev pub lead : ℕ → ℕ → ℕ → ℕ → ℕ → Lead
 lead low high secondLow secondHigh size =
     record { low = low; high = high; «second_low» = secondLow; «second_high» = secondHigh; size = size }
 
--- The nine lead-byte rows. (In the first there is no second byte.)
+-- The nine lead-byte rows. (The first has no second byte; its range 00–00 is never read.)
 unfoldable pub leads : List Lead
 leads =
     lead 0x00 0x7f 0x00 0x00 1
@@ -40,7 +40,7 @@ leads =
 abbrev pub isLead : Lead → ℕ → Bool
 isLead row byte = within (row .low) (row .high) byte
 
--- The row that has the byte as a lead byte. (No two rows have one in common: `row-exact`.)
+-- The row that has the byte as a lead byte. (No two rows have one in common: `row-exact` in LeadLaws.)
 unfoldable pub leadRow : List Lead → ℕ → LeadFound
 leadRow [] byte = NoRow
 leadRow (row ∷ rows) byte = cond (isLead row byte) (Row row) (leadRow rows byte)
@@ -101,7 +101,7 @@ letterAt (byte ∷ rest) = letterBy (leadRow leads byte) byte rest
 
 -- ---- the text
 
--- A whole character and those behind it; nothing where none stands.
+-- A whole character and those after it; nothing where none stands.
 abbrev pub followedBy : Decoded → (ℕ → List Letter) → List Letter
 followedBy IllFormed more = []
 followedBy (Whole letter) more = letter ∷ more (letter .size)
@@ -112,7 +112,7 @@ unfolding letterAt
 lettersIn zero bytes = []
 lettersIn (suc most) bytes = followedBy (letterAt bytes) (λ (size : ℕ). lettersIn most (drop size bytes))
 
--- The longest run of whole well-formed characters from the start (`longest`). A text has no more characters than bytes, so the bound cuts none off.
+-- The longest run of whole well-formed characters from the start (`longest` in TextLaws). A text has no more characters than bytes, so the bound cuts none off.
 unfoldable pub letters : List ℕ → List Letter
 unfolding lettersIn
 letters bytes = lettersIn (length bytes) bytes
@@ -128,7 +128,7 @@ wellFormed bytes = eqb (sizes (letters bytes)) (length bytes)
 
 -- ---- the rows
 
--- Where each of the characters starts, and behind the last one where it ends, if the first starts at `at`.
+-- Where each character starts and, last, where the text ends, counted from `at`.
 unfoldable pub offsetsFrom : ℕ → List Letter → List ℕ
 offsetsFrom at [] = at ∷ []
 offsetsFrom at (letter ∷ more) = at ∷ offsetsFrom (at + letter .size) more
@@ -141,13 +141,13 @@ offsets all = offsetsFrom 0 all
 abbrev pub isKanji : ℕ → Bool
 isKanji code = within 0x4e00 0x9faf code || within 0x3400 0x4dbf code
 
--- A run: 0 if the character is no kanji, otherwise 1 + the run behind it.
+-- A run: 0 if the character is no kanji, otherwise 1 + the run at the next.
 abbrev pub runOf : Bool → ℕ → ℕ
-runOf kanji behind = cond kanji (1 + behind) 0
+runOf kanji next = cond kanji (1 + next) 0
 
--- The runs behind a character, with its own in front.
+-- The runs from the next character on, with this one's in front.
 abbrev pub runAhead : Bool → List ℕ → List ℕ
-runAhead kanji behind = runOf kanji (getD behind 0 0) ∷ behind
+runAhead kanji next = runOf kanji (getD next 0 0) ∷ next
 
 -- Run row: the run at each character; at n it is 0.
 unfoldable pub runs : List Letter → List ℕ

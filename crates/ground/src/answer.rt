@@ -1,4 +1,4 @@
-// Document 01's answers: a case for each, and the numbers that it returns.
+// The answers of document 01 that this layer gives (0, 1, 2, 7), and the numbers that each returns.
 ghost use mathlib.Core.Path.{_≡_};
 ghost use Rattle.ground.specs.Answer.{numbersOf};
 
@@ -7,7 +7,7 @@ pub enum Answer {
     Done { count: u32, cost: i32 },
     // The text has too many bytes or too many characters.
     TooLong,
-    // The text is no UTF-8 from this byte on.
+    // The text is not UTF-8; place: just after the longest run of whole well-formed characters.
     NotUtf8 { place: u32 },
     // A row to be written has too few places.
     ShortRow,

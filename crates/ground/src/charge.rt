@@ -31,7 +31,7 @@ fn above(len: u16, threshold: u16, price: u16) -> i32
 }
 
 impl Mode {
-    // The charge of a word of len characters, at whose first one the kanji run is run.
+    // The charge of a word of len characters; run is the kanji run at its start.
     pub fn charge(self, run: u16, len: u16) -> i32
         requires { ⌜ PricesFit self ⌝ }
         ensures { λ r. ⌜ r ≡ pos (charge self run len) ⌝ }

@@ -16,7 +16,7 @@ pub fn row(matrix: &[i16], width: usize, left_id: usize) -> &[i16]
     &matrix[from..to]
 }
 
-// The joint with an earlier word's right id, and that sixteen bits hold it.
+// The joint with an earlier word's right id, and that sixteen bits hold it: the mag of n and of −1 − n is n, so it is −32,768 to 32,767.
 pub fn joint(row: &[i16], right_id: usize) -> i32
     requires { ⌜ «right_id» < length (now row) ⌝ }
     ensures { λ r. ⌜ (r ≡ valueIn (now (row .entry)) «right_id») × (mag r < 2 ^ 15) ⌝ }

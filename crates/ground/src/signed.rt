@@ -36,7 +36,7 @@ pub fn whole(x: u32) -> i32
     x as i32
 }
 
-// A number that sixteen bits hold.
+// A number that sixteen bits hold. (The mag of n and of −1 − n is n.)
 fn narrowed(x: i32) -> i16
     requires { ⌜ mag x < 2 ^ 15 ⌝ }
     ensures { λ r. ⌜ r ≡ x ⌝ }

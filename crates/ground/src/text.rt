@@ -3,11 +3,11 @@ use crate::answer::Answer;
 ghost use mathlib.Core.Path.{_≡_};
 ghost use Prim.Native.Nat.{_+_, _-_, _*_, _%_, _^_, _<_, _≤_};
 ghost use lib.ListN.{length, take, drop, getD};
-ghost use Rattle.ground.specs.Limits.{textLimit, characterLimit};
+ghost use Rattle.ground.specs.Limits.{characterLimit};
 ghost use Rattle.ground.specs.Rows.{over};
 ghost use Rattle.ground.specs.Text.{leads, leadRow, mayFollow, letterOf, letterAt, letters, sizes, offsets, runs, runOf};
-ghost use Rattle.ground.specs.Characters.{checked, outcome};
-ghost use Rattle.ground.specs.Filling.{Sound, atLeast, sizeByLead, letterOfSize, inBlock, kanjiBit, isSet, kanjiBits, counted};
+ghost use Rattle.ground.specs.Characters.{checked, Sound, outcome};
+ghost use Rattle.ground.specs.Filling.{atLeast, sizeByLead, letterOfSize, inBlock, kanjiBit, isSet, kanjiBits, counted};
 
 // The most bytes and the most characters of a text.
 pub const TEXT_LIMIT: usize = 16_384;
@@ -28,7 +28,9 @@ pub struct Lead {
     pub size: usize,
 }
 
-const LEADS: [Lead; 9] = [
+const LEAD_ROWS: usize = 9;
+
+const LEADS: [Lead; LEAD_ROWS] = [
     Lead {
         low: 0x00,
         high: 0x7f,
@@ -99,7 +101,7 @@ pub enum LeadFound {
     NoRow,
 }
 
-// A character: its length in bytes and its code point.
+// A letter is one of document 01's characters: its length in bytes and its code point.
 pub struct Letter {
     pub size: usize,
     pub code: u32,
@@ -127,7 +129,7 @@ fn lead_row(byte: u8) -> LeadFound
 {
     let rows = LEADS;
     let mut i = 0;
-    while i < 9 {
+    while i < LEAD_ROWS {
         let row = rows[i];
         if within(row.low, row.high, byte) {
             return LeadFound::Row(row);
@@ -204,7 +206,7 @@ fn letter_of_size(bytes: &[u8], size: usize) -> Letter
     }
 }
 
-// The character that the bytes begin with. Their first byte is one of the row's lead bytes.
+// The character of a row that the bytes begin with.
 fn letter_by(row: Lead, bytes: &[u8]) -> Decoded
     requires { ⌜ (1 ≤ row .size) × (row .size ≤ 4) × (0 < length (now bytes)) ⌝ }
     ensures { λ r. ⌜ r ≡ letterOf row (getD (now (bytes .entry)) 0 0) (take (row .size - 1) (drop 1 (now (bytes .entry)))) ⌝ }
@@ -232,34 +234,28 @@ fn letter_at(text: &[u8], at: usize) -> Decoded
 
 // How many whole well-formed characters the text begins with, and how many bytes they take.
 pub struct Measured {
-    pub characters: usize,
+    pub n: usize,
     pub bytes: usize,
 }
 
 fn measure(text: &[u8]) -> Measured
-    ensures { λ r. ⌜ (r .characters ≡ length (letters (now (text .entry)))) × (r .bytes ≡ sizes (letters (now (text .entry)))) ⌝ }
+    ensures { λ r. ⌜ (r .n ≡ length (letters (now (text .entry)))) × (r .bytes ≡ sizes (letters (now (text .entry)))) ⌝ }
 {
     let mut at = 0;
     let mut n = 0;
     while at < text.len() {
         let Decoded::Whole(letter) = letter_at(text, at) else {
-            return Measured {
-                characters: n,
-                bytes: at,
-            };
+            return Measured { n, bytes: at };
         };
         at += letter.size;
         n += 1;
     }
-    Measured {
-        characters: n,
-        bytes: at,
-    }
+    Measured { n, bytes: at }
 }
 
 // What the tests of a text tell.
 pub enum Checked {
-    Passed { characters: usize },
+    Passed { n: usize },
     Refused(Answer),
 }
 
@@ -276,12 +272,10 @@ pub fn check(text: &[u8]) -> Checked
             place: m.bytes as u32,
         });
     }
-    if CHARACTER_LIMIT < m.characters {
+    if CHARACTER_LIMIT < m.n {
         return Checked::Refused(Answer::TooLong);
     }
-    Checked::Passed {
-        characters: m.characters,
-    }
+    Checked::Passed { n: m.n }
 }
 
 // The character that well-formed bytes begin with, by its lead byte: nothing is tested again.
@@ -334,8 +328,7 @@ fn kanji_bit(code: u32) -> u16
 
 // The offset row, and in the run row 1 for each kanji.
 fn fill_bits(text: &[u8], offset: &mut [u32], run: &mut [u16])
-    requires { ⌜ length (now text) ≤ textLimit ⌝ }
-    requires { ⌜ sizes (letters (now text)) ≡ length (now text) ⌝ }
+    requires { ⌜ Sound (now text) (length (letters (now text))) ⌝ }
     requires { ⌜ (length (letters (now text)) < length (now offset)) × (length (letters (now text)) < length (now run)) ⌝ }
     ensures { λ _. ⌜ now (offset .exit) ≡ over (offsets (letters (now (text .entry)))) (now (offset .entry)) ⌝ }
     ensures { λ _. ⌜ now (run .exit) ≡ over (kanjiBits (letters (now (text .entry)))) (now (run .entry)) ⌝ }
@@ -393,16 +386,16 @@ pub fn characters(text: &[u8], offset: &mut [u32], run: &mut [u16]) -> Answer
 {
     match check(text) {
         Checked::Refused(answer) => answer,
-        Checked::Passed { characters } => {
-            if offset.len() <= characters {
+        Checked::Passed { n } => {
+            if offset.len() <= n {
                 return Answer::ShortRow;
             }
-            if run.len() <= characters {
+            if run.len() <= n {
                 return Answer::ShortRow;
             }
-            fill(text, characters, offset, run);
+            fill(text, n, offset, run);
             Answer::Done {
-                count: characters as u32,
+                count: n as u32,
                 cost: 0,
             }
         }

@@ -20,18 +20,18 @@ use Rattle.ground.proofs.text.characters.Tie as tie
 abbrev at-check : tie.After-check → tie.Start
 at-check c = c .before .before .before .before
 
-abbrev at-passed : tie.After-characters → tie.After-check
+abbrev at-passed : tie.After-n → tie.After-check
 at-passed c = c .before .before
 
-abbrev n : tie.After-characters → ℕ
-n c = c .characters .given .0 .0
+abbrev n : tie.After-n → ℕ
+n c = c .n .given .0 .0
 
 -- the tests were passed
-tests : (c : tie.After-characters) → checked (at-check (at-passed c) .args .text .now) ≡ Passed (n c)
-tests c = sym (at-passed c .check .ensures) ∙ c .characters .given .1
+tests : (c : tie.After-n) → checked (at-check (at-passed c) .args .text .now) ≡ Passed (n c)
+tests c = sym (at-passed c .check .ensures) ∙ c .n .given .1
 
 -- and so the rows' lengths decide
-rows : (c : tie.After-characters) (a b : Bool) → short (n c) (at-check (at-passed c) .args .offset .now) ≡ a → short (n c) (at-check (at-passed c) .args .run .now) ≡ b
+rows : (c : tie.After-n) (a b : Bool) → short (n c) (at-check (at-passed c) .args .offset .now) ≡ a → short (n c) (at-check (at-passed c) .args .run .now) ≡ b
     → filledUnless (refuse (a || b) ShortRow) (at-check (at-passed c) .args .text .now) (at-check (at-passed c) .args .offset .now) (at-check (at-passed c) .args .run .now)
     ≡ Characters.characters (at-check (at-passed c) .args .text .now) (at-check (at-passed c) .args .offset .now) (at-check (at-passed c) .args .run .now)
 rows c a b p q =
@@ -45,8 +45,8 @@ check-requires c κs = search needs
 enum-known-answer : tie.Need-enum-known-answer
 enum-known-answer c = search needs
 
-enum-known-characters : tie.Need-enum-known-characters
-enum-known-characters c = search needs
+enum-known-n : tie.Need-enum-known-n
+enum-known-n c = search needs
 
 returns : tie.Need-returns
 returns c =
@@ -97,7 +97,7 @@ characters-spec =
     (tie.spec
     check-requires
     enum-known-answer
-    enum-known-characters
+    enum-known-n
     returns
     returns-2
     fill-requires

@@ -1,11 +1,12 @@
 -- The bits are taken byte by byte. Assumes nothing.
 use Prim.Native.Nat.{ℕ, _+_, _-_, _*_, _%_}
-use mathlib.Core.Path.{_≡_, ap, _∙_}
+use mathlib.Core.Path.{_≡_, ap, _∙_, sym}
 use borrow.Author.Needs.{needs}
 use native.Mathlib.Omega.{arith}
 use lib.ListN.{take, drop, getD}
-use Rattle.ground.proofs.LetterLaws.{six-next}
+use Rattle.ground.proofs.LetterLaws.{code-sized, six-next}
 use Rattle.ground.specs.Text.{sixBits, leadBits}
+use Rattle.ground.specs.Filling.{letterOfSize}
 use Rattle.ground.proofs.text.code_of.Statement.{statement}
 use Rattle.ground.proofs.text.code_of.Tie as tie
 
@@ -15,13 +16,17 @@ shared-slice-read-wide c = search needs
 wide-requires : tie.Need-wide-requires
 wide-requires c κs = search needs
 
--- the code point of the first 1 + k bytes
-abbrev code : tie.Start → ℕ → ℕ
-code s k = sixBits (leadBits k (getD (s .args .bytes .now) 0 0)) (take k (drop 1 (s .args .bytes .now)))
+-- the bits of the first 1 + k bytes
+abbrev bits : tie.Start → ℕ → ℕ
+bits s k = sixBits (leadBits k (getD (s .args .bytes .now) 0 0)) (take k (drop 1 (s .args .bytes .now)))
+
+-- where there are 1 + k bytes, these are the code point
+told : (s : tie.Start) (k : ℕ) → s .args .size - 1 ≡ k → letterOfSize (s .args .bytes .now) (s .args .size) .code ≡ bits s k
+told s k e = code-sized (s .args .bytes .now) (s .args .size) (omega arith) (omega arith) ∙ ap (λ (n : ℕ). bits s n) e
 
 returns : tie.Need-returns
 unfolding sixBits
-returns c = rw (c .if1 .taken) (c .before .wide .ensures)
+returns c = c .before .wide .ensures ∙ sym (told (c .before .before .before .before) 0 (omega arith))
 
 shared-slice-read-with-six : tie.Need-shared-slice-read-with-six
 shared-slice-read-with-six c = search needs
@@ -34,10 +39,9 @@ unfolding sixBits
 returns-2 c =
     let s = c .before .before .before .before .before .before .before in
     let bytes = s .args .bytes .now in
-    let k : s .args .size - 1 ≡ 1 = omega arith in
-    let bits : code s (s .args .size - 1) ≡ getD bytes 0 0 % 32 * 64 + getD bytes 1 0 % 64 =
-    ap (λ (k : ℕ). code s k) k ∙ six-next bytes 0 1 (getD bytes 0 0 % 32) (omega arith) in
-    cc
+    let two : bits s 1 ≡ getD bytes 0 0 % 32 * 64 + getD bytes 1 0 % 64 = six-next bytes 0 1 (getD bytes 0 0 % 32) (omega arith) in
+    let read : c .with-six .result ≡ bits s 1 = cc in
+    read ∙ sym (told s 1 (omega arith))
 
 shared-slice-read-with-six-2 : tie.Need-shared-slice-read-with-six-2
 shared-slice-read-with-six-2 c = search needs
@@ -57,12 +61,10 @@ returns-3 c =
     let s = c .before .before .before .before .before .before .before .before .before .before in
     let bytes = s .args .bytes .now in
     let first = getD bytes 0 0 % 16 in
-    let k : s .args .size - 1 ≡ 2 = omega arith in
-    let bits : code s (s .args .size - 1) ≡ (first * 64 + getD bytes 1 0 % 64) * 64 + getD bytes 2 0 % 64 =
-    ap (λ (k : ℕ). code s k) k
-    ∙ six-next bytes 1 1 first (omega arith)
-    ∙ six-next bytes 0 2 (first * 64 + getD bytes 1 0 % 64) (omega arith) in
-    cc
+    let three : bits s 2 ≡ (first * 64 + getD bytes 1 0 % 64) * 64 + getD bytes 2 0 % 64 =
+    six-next bytes 1 1 first (omega arith) ∙ six-next bytes 0 2 (first * 64 + getD bytes 1 0 % 64) (omega arith) in
+    let read : c .with-six3 .result ≡ bits s 2 = cc in
+    read ∙ sym (told s 2 (omega arith))
 
 shared-slice-read-with-six-4 : tie.Need-shared-slice-read-with-six-4
 shared-slice-read-with-six-4 c = search needs
@@ -89,13 +91,12 @@ returns-4 c =
     let bytes = s .args .bytes .now in
     let first = getD bytes 0 0 % 8 in
     let second = first * 64 + getD bytes 1 0 % 64 in
-    let k : s .args .size - 1 ≡ 3 = omega arith in
-    let bits : code s (s .args .size - 1) ≡ (second * 64 + getD bytes 2 0 % 64) * 64 + getD bytes 3 0 % 64 =
-    ap (λ (k : ℕ). code s k) k
-    ∙ six-next bytes 2 1 first (omega arith)
+    let four : bits s 3 ≡ (second * 64 + getD bytes 2 0 % 64) * 64 + getD bytes 3 0 % 64 =
+    six-next bytes 2 1 first (omega arith)
     ∙ six-next bytes 1 2 second (omega arith)
     ∙ six-next bytes 0 3 (second * 64 + getD bytes 2 0 % 64) (omega arith) in
-    cc
+    let read : c .with-six6 .result ≡ bits s 3 = cc in
+    read ∙ sym (told s 3 (omega arith))
 
 pub code-of-spec : {M : Type 1} → statement M
 code-of-spec =
