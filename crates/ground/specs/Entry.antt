@@ -10,10 +10,11 @@ use Rattle.ground.specs.declared.entry.Entry.{Entry}
 use Rattle.ground.specs.declared.entry.Kind.{Kind}
 use Rattle.ground.specs.declared.entry.Kind.the-variants.{System, User, Unknown, Unnamed}
 
--- Little-endian: two bytes from place i on, and four.
+-- Two bytes from place i on, little-endian.
 abbrev pub u16At : List ℕ → ℕ → ℕ
 u16At bytes i = getD bytes i 0 + 256 * getD bytes (i + 1) 0
 
+-- Four bytes from place i on, little-endian.
 abbrev pub u32At : List ℕ → ℕ → ℕ
 u32At bytes i = u16At bytes i + 65536 * u16At bytes (i + 2)
 
