@@ -46,7 +46,7 @@ passed text n e = go (ltb textLimit (length text)) refl (wellFormed text) refl (
 
 -- the table's effect by the outcome of the tests: the answer and unchanged rows, or the test of the rows and then the filling
 abbrev pub effect : Checked → List ℕ → List ℕ → List ℕ → Outcome
-effect (Refused answer) text offset run = outcome answer offset run
+effect (Refused answer) text offset run = filledUnless (some answer) text offset run
 effect (Passed n) text offset run = filledUnless (refuse (short n offset || short n run) ShortRow) text offset run
 
 pub by-tests : (text offset run : List ℕ) (outcome : Checked) → checked text ≡ outcome → effect outcome text offset run ≡ characters text offset run
