@@ -1,7 +1,7 @@
 -- The tests of a text and the character table's effect: what each outcome of the tests means. Assumes nothing.
 use Prim.Native.Nat.{ℕ, _+_}
 use mathlib.Core.Path.{_≡_, refl, ap, _∙_, sym}
-use mathlib.Core.Bool.{Bool, true, false, not, _||_}
+use mathlib.Core.Bool.{Bool, true, false, _||_}
 use mathlib.Core.List.{List, [], _∷_, map}
 use mathlib.Core.Option.{Option, none, some, orElse}
 use native.Mathlib.Omega.{arith}
@@ -13,7 +13,7 @@ use Rattle.ground.specs.Limits.{textLimit, characterLimit}
 use Rattle.ground.specs.Text.{leads, leadRow, allLater, sixBits, letterAt, lettersIn, letters, sizes, wellFormed, offsetsFrom, offsets, runs}
 use Rattle.ground.specs.Characters.{refuse, textRefused, checkedBy, checked, Sound, Outcome, outcome, short, filledUnless, characters}
 use Rattle.ground.specs.declared.answer.Answer.{Answer}
-use Rattle.ground.specs.declared.answer.Answer.the-variants.{Done, TooLong, NotUtf8, ShortRow}
+use Rattle.ground.specs.declared.answer.Answer.the-variants.{Done, NotUtf8, ShortRow}
 use Rattle.ground.specs.declared.text.Checked.{Checked}
 use Rattle.ground.specs.declared.text.Checked.the-variants.{Passed, Refused}
 use Rattle.ground.proofs.RowLaws.{over-length, offsets-length, runs-length}
@@ -21,21 +21,19 @@ use Rattle.ground.proofs.RowLaws.{over-length, offsets-length, runs-len
 -- what it means that the tests were passed
 pub passed : (text : List ℕ) (n : ℕ) → checked text ≡ Passed n → Sound text n
 unfolding checked orElse
-passed text n e = go (ltb textLimit (length text)) refl (wellFormed text) refl (ltb characterLimit (length (letters text))) refl e
+passed text n e = go (ltb textLimit (length text)) refl (wellFormed text) refl (ltb characterLimit (length (letters text))) refl
   where
     no : (a : Answer) → Refused a ≡ Passed n → ⊥
     no a e = let z : _≡_ {A = ℕ} 0 1 = cc in omega arith
 
     go : (long : Bool) → ltb textLimit (length text) ≡ long → (whole : Bool) → wellFormed text ≡ whole
-        → (many : Bool) → ltb characterLimit (length (letters text)) ≡ many
-        → checkedBy (orElse (refuse long TooLong) (orElse (refuse (not whole) (NotUtf8 (sizes (letters text)))) (refuse many TooLong)))
-        (length (letters text))
-        ≡ Passed n
-        → Sound text n
-    go true l whole w many m e = absurd (no TooLong e)
-    go false l false w many m e = absurd (no (NotUtf8 (sizes (letters text))) e)
-    go false l true w true m e = absurd (no TooLong e)
-    go false l true w false m e =
+        → (many : Bool) → ltb characterLimit (length (letters text)) ≡ many → Sound text n
+    go true l whole w many m = absurd (no _ (simp (l, w, m) at e))
+    go false l false w true m = absurd (no _ (simp (l, w, m) at e))
+    go false l false w false m = absurd (no _ (simp (l, w, m) at e))
+    go false l true w true m = absurd (no _ (simp (l, w, m) at e))
+    go false l true w false m =
+        let p : Passed (length (letters text)) ≡ Passed n = simp (l, w, m) at e in
         let q : length (letters text) ≡ n = cc in
         record {
           bytes = ltb-false textLimit (length text) l;
