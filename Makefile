@@ -4,14 +4,14 @@ SHELL := /bin/sh
 .PHONY: test lib bench
 
 LIB := target/staticlib/libjumelavorp.a
+C_PROGRAMS := characters walk_back
 CFLAGS := -std=c11 -Wall -Wextra -Werror -pedantic -O2 -Iinclude
 
 # Each line stops the run where it fails. rt ci comes last: it proves every crate from nothing,
 # tries the must-fail edits, and its last line is 'N passed, 0 failed'.
 test: lib
 	rt fmt --check
-	$(CC) $(CFLAGS) harness/c/characters.c $(LIB) -o target/c-characters
-	./target/c-characters
+	for name in $(C_PROGRAMS); do $(CC) $(CFLAGS) harness/c/$$name.c $(LIB) -o target/c-$$name; ./target/c-$$name; done
 	cd harness && cargo test --offline --locked
 	rt ci
 

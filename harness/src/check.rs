@@ -1,6 +1,7 @@
 //! Calls the library on guarded rows and compares everything it could have changed.
 
 pub mod characters;
+pub mod walk_back;
 
 use std::fmt::Debug;
 
@@ -28,16 +29,28 @@ impl Place for u32 {
 #[derive(Default)]
 pub struct Row<T> {
     whole: Vec<T>,
-    salt: u64,
+    before: [T; GUARD],
+    behind: [T; GUARD],
 }
 
 impl<T: Place> Row<T> {
     /// Makes a row of so many places, all of them and the guards filled with the pattern.
     pub fn refill(&mut self, places: usize, salt: u64) {
-        self.salt = salt;
+        self.before = std::array::from_fn(|i| T::pattern(salt, i));
+        self.behind = std::array::from_fn(|i| T::pattern(salt, GUARD + places + i));
         self.whole.clear();
         self.whole
             .extend((0..places + 2 * GUARD).map(|i| T::pattern(salt, i)));
+    }
+
+    /// Lays a row that is only to be read between guards that mislead whoever reads them.
+    pub fn lay_out(&mut self, contents: &[T], guard: T) {
+        self.before = [guard; GUARD];
+        self.behind = [guard; GUARD];
+        self.whole.clear();
+        self.whole.extend_from_slice(&self.before);
+        self.whole.extend_from_slice(contents);
+        self.whole.extend_from_slice(&self.behind);
     }
 
     /// The part that is lent.
@@ -64,13 +77,24 @@ impl<T: Place> Row<T> {
             ));
         }
         let behind = self.whole.len() - GUARD;
-        let changed = |&i: &usize| self.whole[i] != T::pattern(self.salt, i);
-        let mut guards = (0..GUARD).chain(behind..behind + GUARD);
-        guards.find(changed).map(|i| {
+        let guards = (0..GUARD).chain(behind..behind + GUARD);
+        let laid = self.before.iter().chain(&self.behind);
+        let changed = |(i, laid): &(usize, &T)| self.whole[*i] != **laid;
+        guards.zip(laid).find(changed).map(|(i, _)| {
             let lent = lent.len();
             format!("guard place {i} changed (the row has {lent} places from {GUARD} on)")
         })
     }
+}
+
+/// Does both halves of a work, the second in a thread of its own.
+pub fn in_halves<R: Send>(half: impl Fn(usize) -> R + Sync) -> [R; 2] {
+    std::thread::scope(|scope| {
+        let other = scope.spawn(|| half(1));
+        let first = half(0);
+        let second = other.join();
+        [first, second.expect("the second thread found a difference")]
+    })
 }
 
 /// A text's length and first bytes, for a message.

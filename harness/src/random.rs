@@ -32,4 +32,15 @@ impl Random {
     pub fn one_of<T: Copy>(&mut self, list: &[T]) -> T {
         list[self.below(list.len())]
     }
+
+    /// So many different numbers below `end`, in random order.
+    pub fn different(&mut self, count: usize, end: usize) -> Vec<usize> {
+        let mut all: Vec<usize> = (0..end).collect();
+        for i in 0..count {
+            let other = i + self.below(end - i);
+            all.swap(i, other);
+        }
+        all.truncate(count);
+        all
+    }
 }

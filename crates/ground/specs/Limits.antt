@@ -1,4 +1,4 @@
--- Document 01, "Largest sizes": those that this crate tests, each once. (Thresholds are held by u16; c, height and width stand where they are tested.)
+-- Document 01, "Largest sizes": each once. (Thresholds are held by u16; height and width stand where they are tested.)
 use Prim.Native.Nat.{ℕ}
 
 -- Bytes of a text.
@@ -12,3 +12,7 @@ characterLimit = 4096
 -- A price of the Decompose mode.
 abbrev pub priceLimit : ℕ
 priceLimit = 32767
+
+-- Candidates.
+abbrev pub candidateLimit : ℕ
+candidateLimit = 16384

@@ -1,6 +1,6 @@
 //! The character table alone, held against the model.
 
-use super::{shown, Row, GUARD};
+use super::{in_halves, shown, Row, GUARD};
 use crate::library::{self, Answer};
 use crate::model;
 use crate::random::Random;
@@ -81,15 +81,11 @@ impl Check {
 
 /// Does the work for every lead byte, half of them in a second thread, and counts the cases.
 pub fn for_each_lead(work: impl Fn(&mut Check, u8) + Sync) -> u64 {
-    let half = |odd: u8| {
-        let mut check = Check::new(odd.into());
-        (0..=255)
-            .filter(|lead| lead % 2 == odd)
-            .for_each(|lead| work(&mut check, lead));
+    let cases = in_halves(|half| {
+        let mut check = Check::new(half as u64);
+        let leads = (0..=255).skip(half).step_by(2);
+        leads.for_each(|lead| work(&mut check, lead));
         check.cases()
-    };
-    std::thread::scope(|scope| {
-        let other = scope.spawn(|| half(1));
-        half(0) + other.join().expect("the second thread found a difference")
-    })
+    });
+    cases.iter().sum()
 }

@@ -8,14 +8,14 @@ use Rattle.ground.proofs.answer.Answer.numbers.Tie as tie
 enum-known-self : tie.Need-enum-known-self
 enum-known-self c = search needs
 
-enum-told : tie.Need-enum-told
-enum-told c = search needs
+enum-known-self-2 : tie.Need-enum-known-self-2
+enum-known-self-2 c = search needs
 
 refusal-requires : tie.Need-refusal-requires
 refusal-requires c κs = search needs
 
-enum-known-self-2 : tie.Need-enum-known-self-2
-enum-known-self-2 c = search needs
+enum-told : tie.Need-enum-told
+enum-told c = search needs
 
 refusal-requires-2 : tie.Need-refusal-requires-2
 refusal-requires-2 c κs = search needs
@@ -26,30 +26,66 @@ enum-told-2 c = search needs
 refusal-requires-3 : tie.Need-refusal-requires-3
 refusal-requires-3 c κs = search needs
 
+enum-told-3 : tie.Need-enum-told-3
+enum-told-3 c = search needs
+
+refusal-requires-4 : tie.Need-refusal-requires-4
+refusal-requires-4 c κs = search needs
+
+enum-told-4 : tie.Need-enum-told-4
+enum-told-4 c = search needs
+
+refusal-requires-5 : tie.Need-refusal-requires-5
+refusal-requires-5 c κs = search needs
+
+enum-told-5 : tie.Need-enum-told-5
+enum-told-5 c = search needs
+
+refusal-requires-6 : tie.Need-refusal-requires-6
+refusal-requires-6 c κs = search needs
+
 returns : tie.Need-returns
 returns c = rw (c .before .self .given .1, back w32 (c .before .self .given .0 .1 .0) (c .known-told .given .1 .0 .1))
 
 returns-2 : tie.Need-returns-2
-returns-2 c = rw (c .before .enum-told .given .1) (c .refusal .ensures)
+returns-2 c = rw (c .before .before .self2 .given .1) (c .refusal .ensures)
 
 returns-3 : tie.Need-returns-3
-returns-3 c = rw (c .before .before .self2 .given .1) (c .refusal2 .ensures)
+returns-3 c = rw (c .before .enum-told .given .1) (c .refusal2 .ensures)
 
 returns-4 : tie.Need-returns-4
 returns-4 c = rw (c .before .enum-told2 .given .1) (c .refusal3 .ensures)
+
+returns-5 : tie.Need-returns-5
+returns-5 c = rw (c .before .enum-told3 .given .1) (c .refusal4 .ensures)
+
+returns-6 : tie.Need-returns-6
+returns-6 c = rw (c .before .enum-told4 .given .1) (c .refusal5 .ensures)
+
+returns-7 : tie.Need-returns-7
+returns-7 c = rw (c .before .enum-told5 .given .1) (c .refusal6 .ensures)
 
 pub numbers-spec : {M : Type 1} → statement M
 numbers-spec =
     tie.close
     (tie.spec
     enum-known-self
-    enum-told
-    refusal-requires
     enum-known-self-2
+    refusal-requires
+    enum-told
     refusal-requires-2
     enum-told-2
     refusal-requires-3
+    enum-told-3
+    refusal-requires-4
+    enum-told-4
+    refusal-requires-5
+    enum-told-5
+    refusal-requires-6
     returns
     returns-2
     returns-3
-    returns-4)
+    returns-4
+    returns-5
+    returns-6
+    returns-7)

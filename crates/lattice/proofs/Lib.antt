@@ -1,0 +1,13 @@
+pub mod OrderLaws
+pub mod LeastLaws
+pub mod SizeLaws
+pub mod LatticeLaws
+pub mod OfferLaws
+pub mod RuleLaws
+pub mod RowRules
+pub mod OverLaws
+pub mod LinkLaws
+pub mod FillLaws
+pub mod SeekLaws
+pub mod GoingLaws
+pub mod StepLaws

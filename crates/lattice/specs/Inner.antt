@@ -1,0 +1,151 @@
+-- Inner, no part of document 01: what the functions under the forward pass ask of the rows, and what they leave on the way.
+use Prim.Native.Nat.{ℕ, suc, _+_, _-_, _*_, _≤_, _<_}
+use mathlib.Core.Path.{_≡_}
+use mathlib.Core.Bool.{cond}
+use mathlib.Core.List.{List}
+use mathlib.Core.Option.{Option, none, some}
+use lib.ListN.{length, getD, set}
+use lib.IntN.{ℤ, pos, _+ℤ_}
+use lib.Dec.{eqb}
+use mir.Syntax.{w32}
+use mir.Val.{SFits}
+use Rattle.ground.specs.Limits.{characterLimit}
+use Rattle.ground.specs.Entry.{entryAt, entryBytes, noneLink}
+use Rattle.ground.specs.Matrix.{valueIn}
+use Rattle.ground.specs.Charge.{charge, PricesFit}
+use Rattle.ground.specs.declared.charge.Mode.{Mode}
+use Rattle.lattice.specs.Size.{up, down, mostEach, leastEach}
+use Rattle.lattice.specs.Words.{Word}
+use Rattle.lattice.specs.Lattice.{LatticeEntry, entryNumbered, startMark}
+use Rattle.lattice.specs.Rows.{LatticeRows, rows, firstAt, nexts, linkOf}
+use Rattle.lattice.specs.declared.relaxation.Offer.{Offer}
+use Rattle.lattice.specs.declared.relaxation.Taken.{Taken}
+use Rattle.lattice.specs.declared.relaxation.Taken.the-variants.{Least, Nothing}
+
+-- ---- the relaxation
+
+-- The offer that a word takes, as the code returns it.
+abbrev pub takenOf : Option Offer → Taken
+takenOf none = Nothing
+takenOf (some offer) = Least offer
+
+-- The joints of the word at hand, whose row of the matrix this is.
+abbrev pub inRow : List ℤ → ℕ → ℕ → ℤ
+inRow row l r = valueIn row r
+
+-- The charge of candidate k, if it ends at a position.
+abbrev pub chargeTo : List ℕ → List ℕ → Mode → ℕ → ℕ → ℕ
+chargeTo start run mode position k = charge mode (getD run (getD start k 0) 0) (position - getD start k 0)
+
+-- Candidate k's charge can be read.
+pub record Chargeable (start run : List ℕ) (mode : Mode) (position k : ℕ) : Type 0 where
+  pub priced : PricesFit mode
+  pub listed : k < length start
+  pub forward : getD start k 0 < position
+  pub inRun : getD start k 0 < length run
+
+-- What candidate k offers, if it ends at a position: by the rows.
+abbrev pub offerOf : List ℤ → List ℕ → List ℕ → List ℕ → Mode → List ℤ → ℕ → ℕ → Offer
+offerOf row start entry run mode cost position k =
+    record {
+      from = suc k;
+      cost = getD cost (suc k) (pos 0) +ℤ valueIn row (entryAt entry k .«right_id») +ℤ pos (chargeTo start run mode position k);
+    }
+
+-- How far from zero an entry's cost lies, with its charge, by where it ends; and an offer's, by the position.
+pub record Sized (e : LatticeEntry) : Type 0 where
+  pub most : up (e .cost) + e .word .charge ≤ mostEach * e .word .end
+  pub least : down (e .cost) ≤ leastEach * e .word .end
+
+pub record Near (position : ℕ) (z : ℤ) : Type 0 where
+  pub most : up z ≤ mostEach * position + 32767
+  pub least : down z ≤ leastEach * position + 32768
+
+abbrev pub NearTaken : ℕ → Taken → Type 0
+NearTaken position Nothing = Unit {0}
+NearTaken position (Least offer) = Near position (offer .cost)
+
+-- Candidate k's offer can be read, and its parts summed.
+pub record Offering (row : List ℤ) (start entry run : List ℕ) (mode : Mode) (cost : List ℤ) (position k : ℕ) : Type 0 where
+  pub charged : Chargeable start run mode position k
+  pub bytes : k * entryBytes + entryBytes ≤ length entry
+  pub joined : entryAt entry k .«right_id» < length row
+  pub costed : suc k < length cost
+  pub within : position ≤ characterLimit
+  pub most : up (getD cost (suc k) (pos 0)) + chargeTo start run mode position k ≤ mostEach * position
+  pub least : down (getD cost (suc k) (pos 0)) ≤ leastEach * position
+
+-- The rows hold these entries, as far as the relaxation at a position reads them.
+pub record Held (position : ℕ) (es : List LatticeEntry) (row : List ℤ) (start entry run : List ℕ) (mode : Mode) (first : List ℕ) (cost : List ℤ) (next : List ℕ) : Type 0 where
+  pub few : length es ≤ noneLink
+  pub marked : 0 < length row
+  pub begins : entryNumbered es 0 ≡ startMark
+  pub away : (k : ℕ) → suc k < length es → 0 < entryNumbered es (suc k) .word .end
+  pub inFirst : position < length first
+  pub head : getD first position 0 ≡ linkOf (firstAt position 0 es)
+  pub inNext : length es ≤ length next
+  pub follows : (i : ℕ) → i < length es → getD next i 0 ≡ getD (nexts es) i 0
+  pub right : (k : ℕ) → suc k < length es → entryNumbered es (suc k) .word .rightId ≡ entryAt entry k .«right_id»
+  pub charge : (k : ℕ) → suc k < length es → entryNumbered es (suc k) .word .end ≡ position
+      → entryNumbered es (suc k) .word .charge ≡ chargeTo start run mode position k
+  pub costs : (i : ℕ) → i < length es → entryNumbered es i .cost ≡ getD cost i (pos 0)
+  pub offering : (k : ℕ) → suc k < length es → entryNumbered es (suc k) .word .end ≡ position
+      → Offering row start entry run mode cost position k
+
+-- ---- one more entry
+
+-- Entry x can be linked at a position: the last one there is none, or an entry before x.
+pub record Linkable (x position : ℕ) (first last next : List ℕ) : Type 0 where
+  pub inFirst : position < length first
+  pub inLast : position < length last
+  pub inNext : x < length next
+  pub known : (getD last position 0 ≡ noneLink → ⊥) → getD last position 0 < length next
+
+-- It becomes the last one there, and the next of the last so far, or the first.
+abbrev pub linkedFirst : ℕ → ℕ → List ℕ → List ℕ → List ℕ
+linkedFirst x position last first = cond (eqb (getD last position 0) noneLink) (set first position x) first
+
+abbrev pub linkedLast : ℕ → ℕ → List ℕ → List ℕ
+linkedLast x position last = set last position x
+
+abbrev pub linkedNext : ℕ → ℕ → List ℕ → List ℕ → List ℕ
+linkedNext x position last next =
+    cond (eqb (getD last position 0) noneLink)
+    (set next x noneLink)
+    (set (set next x noneLink) (getD last position 0) x)
+
+-- Entry x can be written, by the offer that it takes.
+abbrev pub SumFits : Taken → ℤ → Type 0
+SumFits Nothing price = Unit {0}
+SumFits (Least offer) price = SFits w32 (offer .cost +ℤ price)
+
+pub record Enterable (x : ℕ) (taken : Taken) (price : ℤ) (left : List ℕ) (cost : List ℤ) : Type 0 where
+  pub inLeft : x < length left
+  pub inCost : x < length cost
+  pub fits : SumFits taken price
+
+-- The rows with entry x, which ends at a position.
+abbrev pub entered : ℕ → ℕ → Taken → ℤ → LatticeRows → LatticeRows
+entered x position Nothing price r =
+    rows (r .first) (r .last) (set (r .left) x noneLink) (set (r .cost) x (pos 0)) (set (r .next) x noneLink)
+entered x position (Least offer) price r =
+    rows
+    (linkedFirst x position (r .last) (r .first))
+    (linkedLast x position (r .last))
+    (set (r .left) x (offer .from))
+    (set (r .cost) x (offer .cost +ℤ price))
+    (linkedNext x position (r .last) (r .next))
+
+-- ---- the whole pass
+
+-- The rows have room for the positions up to n and for m entries.
+pub record Room (n m : ℕ) (r : LatticeRows) : Type 0 where
+  pub first : n < length (r .first)
+  pub last : n < length (r .last)
+  pub left : m ≤ length (r .left)
+  pub cost : m ≤ length (r .cost)
+  pub next : m ≤ length (r .next)
+
+-- All entries are of such a size.
+abbrev pub AllSized : List LatticeEntry → Type 0
+AllSized es = (i : ℕ) → i < length es → Sized (entryNumbered es i)

@@ -1,0 +1,65 @@
+-- Document 01, "What comes in": the listed words, as the lattice takes them.
+use Prim.Native.Nat.{ℕ, zero, suc, _-_}
+use mathlib.Core.List.{List, [], _∷_, map}
+use lib.ListN.{length, getD}
+use lib.IntN.{ℤ, pos, _+ℤ_}
+use Rattle.ground.specs.Entry.{entryAt}
+use Rattle.ground.specs.Charge.{charge}
+use Rattle.ground.specs.declared.charge.Mode.{Mode}
+
+-- A word as it can stand in the sentence: a candidate, or a mark.
+pub record Word : Type 0 where
+  pub start : ℕ
+  pub end : ℕ
+  pub leftId : ℕ
+  pub rightId : ℕ
+  pub charge : ℕ  -- when it stands on the left of a joint
+  pub price : ℤ  -- its extra and its word cost
+
+-- What the lattice reads of a job: the candidate rows, the kanji runs, the mode, and the matrix with its width.
+pub record Given : Type 0 where
+  pub start : List ℕ
+  pub end : List ℕ
+  pub extra : List ℤ
+  pub entry : List ℕ
+  pub run : List ℕ
+  pub mode : Mode
+  pub matrix : List ℤ
+  pub width : ℕ
+
+-- The same, put together.
+abbrev pub given : List ℕ → List ℕ → List ℤ → List ℕ → List ℕ → Mode → List ℤ → ℕ → Given
+given start end extra entry run mode matrix width =
+    record { start = start; end = end; extra = extra; entry = entry; run = run; mode = mode; matrix = matrix; width = width }
+
+-- c, the number of candidates.
+abbrev pub count : Given → ℕ
+count g = length (g .start)
+
+-- Candidate k: charged by its length and the kanji run at its start.
+abbrev pub candidate : Given → ℕ → Word
+candidate g k =
+    let start = getD (g .start) k 0 in
+    let end = getD (g .end) k 0 in
+    let entry = entryAt (g .entry) k in
+    record {
+      start = start;
+      end = end;
+      leftId = entry .«left_id»;
+      rightId = entry .«right_id»;
+      charge = charge (g .mode) (getD (g .run) start 0) (end - start);
+      price = getD (g .extra) k (pos 0) +ℤ entry .cost;
+    }
+
+-- from, from + 1, .., `many` numbers.
+unfoldable pub upFrom : ℕ → ℕ → List ℕ
+upFrom from zero = []
+upFrom from (suc many) = from ∷ upFrom (suc from) many
+
+-- The first k candidates, and all of them.
+unfoldable pub candidatesTo : Given → ℕ → List Word
+unfolding upFrom
+candidatesTo g k = map (candidate g) (upFrom 0 k)
+
+abbrev pub candidates : Given → List Word
+candidates g = candidatesTo g (count g)
