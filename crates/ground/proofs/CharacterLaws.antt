@@ -11,7 +11,8 @@ use lib.Dec.{ltb}
 use borrow.Author.Tests.{ltb-false, eqb-true}
 use Rattle.ground.specs.Limits.{textLimit, characterLimit}
 use Rattle.ground.specs.Text.{leads, leadRow, allLater, sixBits, letterAt, lettersIn, letters, sizes, wellFormed, offsetsFrom, offsets, runs}
-use Rattle.ground.specs.Characters.{refuse, textRefused, checkedBy, checked, Sound, Outcome, outcome, short, filledUnless, characters}
+use Rattle.ground.specs.Answer.{refuse}
+use Rattle.ground.specs.Characters.{textRefused, checkedBy, checked, Sound, Outcome, outcome, short, filledUnless, characters}
 use Rattle.ground.specs.declared.answer.Answer.{Answer}
 use Rattle.ground.specs.declared.answer.Answer.the-variants.{Done, NotUtf8, ShortRow}
 use Rattle.ground.specs.declared.text.Checked.{Checked}

@@ -1,7 +1,7 @@
 -- The public operation "character table alone": its tests in document 01's order, and its whole effect.
 use Prim.Native.Nat.{ℕ, _+_, _≤_}
 use mathlib.Core.Path.{_≡_}
-use mathlib.Core.Bool.{Bool, true, false, not, _||_}
+use mathlib.Core.Bool.{Bool, not, _||_}
 use mathlib.Core.List.{List}
 use mathlib.Core.Option.{Option, none, some, orElse}
 use lib.ListN.{length}
@@ -9,16 +9,12 @@ use lib.IntN.{pos}
 use lib.Dec.{ltb}
 use Rattle.ground.specs.Limits.{textLimit, characterLimit}
 use Rattle.ground.specs.Rows.{over}
+use Rattle.ground.specs.Answer.{refuse}
 use Rattle.ground.specs.Text.{letters, sizes, wellFormed, offsets, runs}
 use Rattle.ground.specs.declared.answer.Answer.{Answer}
 use Rattle.ground.specs.declared.answer.Answer.the-variants.{Done, TooLong, NotUtf8, ShortRow}
 use Rattle.ground.specs.declared.text.Checked.{Checked}
 use Rattle.ground.specs.declared.text.Checked.the-variants.{Passed, Refused}
-
--- A test, and the answer where it holds.
-abbrev pub refuse : Bool → Answer → Option Answer
-refuse true answer = some answer
-refuse false answer = none
 
 -- The tests of a text, 2, 1 and 2: the first that holds decides.
 abbrev pub textRefused : List ℕ → Option Answer

@@ -22,10 +22,6 @@ u32At bytes i = u16At bytes i + 65536 * u16At bytes (i + 2)
 abbrev pub signed16 : ℕ → ℤ
 signed16 x = cond (ltb x 32768) (pos x) (negsuc (65535 - x))
 
--- The start mark is entry 0 of the lattice.
-abbrev pub startEntry : ℕ
-startEntry = 0
-
 -- The start mark has right id 0, the end mark left id 0.
 abbrev pub markId : ℕ
 markId = 0

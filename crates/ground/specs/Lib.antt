@@ -1,5 +1,5 @@
 -- How to read these files beside document 01. `name : type` and the lines under it define a name; `abbrev`, `unfoldable` and `unfolding`
--- change no meaning. `f x y` is f applied to x and y, and `f x y .field` a field of what that gives. `×` is "and".
+-- change no meaning. `f x y` is f applied to x and y, and `f x y .field` a field of what that gives.
 --   ℕ, ℤ            natural numbers, `zero` and `suc n` (n + 1), on which `a - b` stops at 0; whole numbers: `pos n` is n, `negsuc n` is −1 − n
 --   cond t x y      x if t is true, otherwise y
 --   leb, ltb, eqb   ≤, < and = as tests; `&&`, `||`, `not` join them
@@ -7,6 +7,10 @@
 --   none, some x    nothing, or x. `orElse o p` is o, or p where o is none
 --   getD xs i d     the element of xs at i, counted from 0, or d where there is none
 --   record { .. }   a struct's value. declared.x.T is the type T of src/x.rt; «a_b» is a name with an underscore
+--   x ≡ y, P × Q    x is y; P and Q. `(k : ℕ) → P`: P for every k; `(j : ℕ) × P`: P for some j; `P → Q`: if P then Q; `P → ⊥`: not P; `P ↔ Q`:
+--                   exactly if. A `record R x where` whose lines are such statements says that all of them hold
+--   λ x. e          the function that gives e for x; `map f xs`: f of each element; `let x = e in b`: b, where x is e
+--   +ℤ, ≤ℤ, ltZ     sum and order of whole numbers, and < as a test; negℤ z is −z
 -- In the contracts of src/, `now row` is a row's content, `.entry` before the call and `.exit` after it.
 pub mod Limits
 pub mod Rows

@@ -5,7 +5,7 @@ use mathlib.Core.List.{List}
 use Rattle.ground.specs.Answer.{numbersOf}
 use Rattle.ground.specs.Characters.{characters}
 use Rattle.ground.specs.declared.answer.Numbers.{Numbers}
-use Rattle.walk.specs.WalkBack.{walkedBack}
+use Rattle.walk.specs.WalkBack.{walkBackAlone}
 
 -- The character table alone.
 pub record Characters (text offset run : List ℕ) (answer : Numbers) (offsetAfter runAfter : List ℕ) : Type 0 where
@@ -15,5 +15,5 @@ pub record Characters (text offset run : List ℕ) (answer : Numbers) (offsetAft
 
 -- The walk back alone.
 pub record WalkBack (start end left : List ℕ) (n : ℕ) (word : List ℕ) (answer : Numbers) (wordAfter : List ℕ) : Type 0 where
-  pub answers : answer ≡ numbersOf (walkedBack start end left n word .answer)
-  pub words : wordAfter ≡ walkedBack start end left n word .word
+  pub answers : answer ≡ numbersOf (walkBackAlone start end left n word .answer)
+  pub words : wordAfter ≡ walkBackAlone start end left n word .word

@@ -17,8 +17,8 @@ use Rattle.ground.specs.Rows.{over}
 use Rattle.ground.proofs.RowLaws.{over-length}
 use Rattle.lattice.specs.Words.{Word, upFrom}
 use Rattle.lattice.specs.Lattice.{LatticeEntry, startMark, endsAt, entryBy}
-use Rattle.lattice.specs.Rows.{linkOf, firstAt, lastAt, nextOf, firsts, lasts, lefts, costs, nextsFrom, nexts, LatticeRows, rows, Filled}
-use Rattle.lattice.specs.Inner.{takenOf, Room, linkedFirst, linkedLast, linkedNext, entered}
+use Rattle.lattice.specs.Rows.{linkOf, firstAt, lastAt, nextOf, firsts, lasts, lefts, costs, nextsFrom, nexts, LatticeRows, rows, Filled, Room}
+use Rattle.lattice.specs.Inner.{takenOf, linkedFirst, linkedLast, linkedNext, entered}
 use Rattle.lattice.specs.declared.relaxation.Offer.{Offer}
 use Rattle.lattice.proofs.LatticeLaws.{up-length, up-at, map-at}
 use Rattle.lattice.proofs.OfferLaws.{ends-show}
@@ -239,7 +239,7 @@ fill-none n old = record { first = rw (firsts-none n); last = rw (lasts-none n);
 -- A word's entry is written by the offer that it takes.
 pub fill-entered : (n : ℕ) (es : List LatticeEntry) (w : Word) (m : Option Offer) (old t : LatticeRows)
     → Filled n es old t → Room n (suc (length es)) old → length es < noneLink → w .end ≤ n
-    → Filled n (es ++ (entryBy w m ∷ [])) old (entered (length es) (w .end) (takenOf m) (w .price) t)
+    → Filled n (es ++ (entryBy w m ∷ [])) old (entered (length es) (w .end) (takenOf m) (w .ownCost) t)
 fill-entered n es w none old t h room few inside = fill-unreached n es (entryBy w none) old t h room few refl
 fill-entered n es w (some o) old t h room few inside = fill-reached n es (entryBy w (some o)) old t h room few refl inside
 

@@ -10,7 +10,7 @@ use native.Mathlib.Nat.{zero-add}
 use lib.ListN.{length, getD, drop, length-drop}
 use lib.Seq.{getD-drop, drop-drop}
 use lib.IntN.{ℤ, +ℤ-idl, +ℤ-idr}
-use Rattle.ground.specs.Entry.{startEntry, markId, noneLink}
+use Rattle.ground.specs.Entry.{markId, noneLink}
 use Rattle.ground.specs.Matrix.{valueIn}
 use Rattle.ground.specs.declared.charge.Mode.{Mode}
 use Rattle.lattice.specs.Words.{Word}
@@ -161,7 +161,7 @@ alone e es away j = go (endsAt 0 (entryNumbered es j)) refl
 -- So at 0 its offer is taken: the joint alone.
 pub start-offer : (row : List ℤ) (es : List LatticeEntry) → entryNumbered es 0 ≡ startMark
     → ((k : ℕ) → suc k < length es → 0 < entryNumbered es (suc k) .word .end)
-    → taken (inRow row) es (mark 0) ≡ some (record { from = startEntry; cost = valueIn row markId })
+    → taken (inRow row) es (mark 0) ≡ some (record { from = 0; cost = valueIn row markId })
 unfolding offers least
 start-offer row [] begins away = absurd (true≢false (sym (ap (λ (e : LatticeEntry). e .reached) begins)))
 start-offer row (e ∷ es) begins away =

@@ -9,7 +9,7 @@ use lib.ListN.{length, getD, length-append, length-map, List·getD-append}
 use lib.Seq.{getD-at}
 use lib.IntN.{ℤ}
 use Rattle.lattice.specs.Words.{Word, Given, count, candidate, upFrom, candidatesTo}
-use Rattle.lattice.specs.Lattice.{LatticeEntry, mark, startMark, unreached, entryNumbered, taken, entryBy, with, grow, jointsOf, entriesTo, lattice}
+use Rattle.lattice.specs.Lattice.{LatticeEntry, mark, startMark, unreached, entryNumbered, taken, entryBy, oneMore, grow, jointsOf, entriesTo, lattice}
 use Rattle.lattice.specs.declared.relaxation.Offer.{Offer}
 
 -- ---- numbers counted up
@@ -62,16 +62,16 @@ module _ (joints : ℕ → ℕ → ℤ) where
   pub grow-length : (es : List LatticeEntry) (ws : List Word) → length (grow joints es ws) ≡ length es + length ws
   unfolding grow
   grow-length es [] = omega arith
-  grow-length es (w ∷ ws) = grow-length (with joints es w) ws ∙ simp length-append (omega arith)
+  grow-length es (w ∷ ws) = grow-length (oneMore joints es w) ws ∙ simp length-append (omega arith)
 
   -- some words, then the others
   pub grow-append : (es : List LatticeEntry) (xs ys : List Word) → grow joints es (xs ++ ys) ≡ grow joints (grow joints es xs) ys
   unfolding grow
   grow-append es [] ys = refl
-  grow-append es (w ∷ xs) ys = grow-append (with joints es w) xs ys
+  grow-append es (w ∷ xs) ys = grow-append (oneMore joints es w) xs ys
 
   -- one more word at the end
-  pub grow-snoc : (es : List LatticeEntry) (ws : List Word) (w : Word) → grow joints es (ws ++ (w ∷ [])) ≡ with joints (grow joints es ws) w
+  pub grow-snoc : (es : List LatticeEntry) (ws : List Word) (w : Word) → grow joints es (ws ++ (w ∷ [])) ≡ oneMore joints (grow joints es ws) w
   unfolding grow
   grow-snoc es ws w = grow-append es ws (w ∷ [])
 
@@ -105,7 +105,7 @@ module _ (g : Given) where
   entryFor k = entryBy (candidate g k) (taken (jointsOf g) (entriesTo g k) (candidate g k))
 
   -- one more entry is candidate k's
-  pub entries-suc : (k : ℕ) → entriesTo g (suc k) ≡ with (jointsOf g) (entriesTo g k) (candidate g k)
+  pub entries-suc : (k : ℕ) → entriesTo g (suc k) ≡ oneMore (jointsOf g) (entriesTo g k) (candidate g k)
   entries-suc k =
       ap (grow (jointsOf g) (startMark ∷ [])) (candidates-suc g k) ∙ grow-snoc (jointsOf g) (startMark ∷ []) (candidatesTo g k) (candidate g k)
 
@@ -144,7 +144,7 @@ module _ (g : Given) where
   -- ---- with the end mark
   module _ (n : ℕ) where
     -- the end mark stands last
-    pub lattice-end : lattice n g ≡ with (jointsOf g) (entriesTo g (count g)) (mark n)
+    pub lattice-end : lattice n g ≡ oneMore (jointsOf g) (entriesTo g (count g)) (mark n)
     unfolding lattice
     lattice-end = grow-snoc (jointsOf g) (startMark ∷ []) (candidatesTo g (count g)) (mark n)
 

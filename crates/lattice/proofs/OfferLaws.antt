@@ -135,9 +135,9 @@ module _ (joints : ℕ → ℕ → ℤ) (w : Word) where
   -- What its left and its cost say, if it is reached.
   pub record Settled (es : List LatticeEntry) (e : LatticeEntry) : Type 0 where
     pub meets : Meets w es (e .left)
-    pub cost : e .cost ≡ via joints w (entryNumbered es (e .left)) +ℤ w .price
-    pub low : (i : ℕ) → Meets w es i → e .cost ≤ℤ (via joints w (entryNumbered es i) +ℤ w .price)
-    pub first : (i : ℕ) → i < e .left → Meets w es i → e .cost <ℤ (via joints w (entryNumbered es i) +ℤ w .price)
+    pub cost : e .cost ≡ via joints w (entryNumbered es (e .left)) +ℤ w .ownCost
+    pub low : (i : ℕ) → Meets w es i → e .cost ≤ℤ (via joints w (entryNumbered es i) +ℤ w .ownCost)
+    pub first : (i : ℕ) → i < e .left → Meets w es i → e .cost <ℤ (via joints w (entryNumbered es i) +ℤ w .ownCost)
 
   -- by the first of the least offers it is so
   pub settled : (es : List LatticeEntry) (m : Option Offer) → Chosen cheaper (offers joints w 0 es) m → entryBy w m .reached ≡ true → Settled es (entryBy w m)
@@ -147,9 +147,9 @@ module _ (joints : ℕ → ℕ → ℤ) (w : Word) where
       let at : o .from ≡ b .at = omega (arith, b .number) in
       record {
         meets = rw at (b .meets);
-        cost = rw at (ap (λ (c : ℤ). c +ℤ w .price) (b .cost));
-        low = λ i m. +ℤ-mono (w .price) (not-cheaper o (offer joints w i (entryNumbered es i)) (low cheaper cheaper-fair f (offered 0 es i m)));
-        first = λ i h m. +ℤ-mono< (w .price) (b .first i (omega arith) m);
+        cost = rw at (ap (λ (c : ℤ). c +ℤ w .ownCost) (b .cost));
+        low = λ i m. +ℤ-mono (w .ownCost) (not-cheaper o (offer joints w i (entryNumbered es i)) (low cheaper cheaper-fair f (offered 0 es i m)));
+        first = λ i h m. +ℤ-mono< (w .ownCost) (b .first i (omega arith) m);
       }
 
   -- It is reached if some entry can offer the word something.

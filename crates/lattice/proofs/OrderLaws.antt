@@ -8,7 +8,7 @@ use lib.IntN.{ℤ, pos, negsuc, _+ℤ_, negℤ, subℕ}
 use lib.Signed.{ltZ, leZ, _≤ℤ_, _<ℤ_, leZ-yes, ltZ-yes, ltZ-no}
 use lib.Dec.{T, ltb, ltb→lt, lt→ltb, leb→le, le→leb}
 use borrow.Author.Tests.{ltb-true, ltb-false}
-use Rattle.lattice.specs.Size.{up, down}
+use Rattle.lattice.specs.Inner.{up, down}
 
 -- ---- the order
 from-leZ : (x y : ℤ) → T (leZ x y) → up x + down y ≤ up y + down x

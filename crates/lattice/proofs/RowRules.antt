@@ -13,36 +13,10 @@ use lib.ListN.{length, getD}
 use lib.IntN.{pos}
 use Rattle.lattice.specs.Words.{upFrom}
 use Rattle.lattice.specs.Lattice.{LatticeEntry, mark, unreached, entryNumbered, endsAt}
+use Rattle.lattice.specs.Rules.{Ends, Foremost, Chief, Lowest, Highest, Holds, RowRules}
 use Rattle.lattice.specs.Rows.{onlyIf, linkOf, firstAt, lastAt, firsts, lasts, lefts, costs, nextsFrom, nexts}
 use Rattle.lattice.proofs.LatticeLaws.{up-length, up-at, map-at}
 use Rattle.lattice.proofs.OfferLaws.{ends-read, ends-show}
-
--- Entry i is reached and ends at a position.
-pub record Ends (es : List LatticeEntry) (position i : ℕ) : Type 0 where
-  pub reached : entryNumbered es i .reached ≡ true
-  pub end : entryNumbered es i .word .end ≡ position
-
--- Of the entries from number `from` on that do so, i is the one that an order puts before all others.
-pub record Foremost (order : ℕ → ℕ → Type 0) (es : List LatticeEntry) (position from i : ℕ) : Type 0 where
-  pub listed : from ≤ i
-  pub ends : Ends es position i
-  pub foremost : (j : ℕ) → from ≤ j → Ends es position j → order i j
-
--- It is that one, or there is none.
-abbrev pub Chief : (ℕ → ℕ → Type 0) → List LatticeEntry → ℕ → ℕ → Option ℕ → Type 0
-Chief order es position from none = (j : ℕ) → from ≤ j → Ends es position j → ⊥
-Chief order es position from (some i) = Foremost order es position from i
-
--- The lowest and the highest, or none.
-abbrev pub Lowest : List LatticeEntry → ℕ → ℕ → Option ℕ → Type 0
-Lowest es position from m = Chief (λ (i j : ℕ). i ≤ j) es position from m
-
-abbrev pub Highest : List LatticeEntry → ℕ → ℕ → Option ℕ → Type 0
-Highest es position from m = Chief (λ (i j : ℕ). j ≤ i) es position from m
-
--- A link, as a row holds it, is a number or none, and of that something is told.
-abbrev pub Link : (Option ℕ → Type 0) → ℕ → Type 0
-Link Told link = (m : Option ℕ) × (link ≡ linkOf m) × Told m
 
 -- There is only one such.
 chief-only : (order : ℕ → ℕ → Type 0) → ((i j : ℕ) → order i j → order j i → i ≡ j)
@@ -147,7 +121,7 @@ module _ (whole : List LatticeEntry) where
 
   -- what comes next after a reached entry is the lowest of the later ones that end where it does
   next-from : (from : ℕ) (es : List LatticeEntry) → Tail from es → (i : ℕ) → entryNumbered es i .reached ≡ true
-      → Link (Lowest whole (entryNumbered es i .word .end) (suc (from + i))) (getD (nextsFrom from es) i 0)
+      → Holds (Lowest whole (entryNumbered es i .word .end) (suc (from + i))) (getD (nextsFrom from es) i 0)
   unfolding nextsFrom
   next-from from [] t i r = absurd (true≢false (sym r))
   next-from from (e ∷ es) t zero r =
@@ -198,14 +172,6 @@ lefts-at es i h = map-at (λ (e : LatticeEntry). e .left) es i (unreached (mark 
 pub costs-at : (es : List LatticeEntry) (i : ℕ) → i < length es → getD (costs es) i (pos 0) ≡ entryNumbered es i .cost
 unfolding costs
 costs-at es i h = map-at (λ (e : LatticeEntry). e .cost) es i (unreached (mark 0)) (pos 0) h
-
--- The rules of the five rows, for any list of entries.
-pub record RowRules (n : ℕ) (es : List LatticeEntry) : Type 0 where
-  pub first : (position : ℕ) → position ≤ n → Link (Lowest es position 0) (getD (firsts n es) position 0)
-  pub last : (position : ℕ) → position ≤ n → Link (Highest es position 0) (getD (lasts n es) position 0)
-  pub next : (i : ℕ) → entryNumbered es i .reached ≡ true → Link (Lowest es (entryNumbered es i .word .end) (suc i)) (getD (nexts es) i 0)
-  pub left : (i : ℕ) → i < length es → getD (lefts es) i 0 ≡ entryNumbered es i .left
-  pub cost : (i : ℕ) → i < length es → getD (costs es) i (pos 0) ≡ entryNumbered es i .cost
 
 -- They are kept.
 pub row-rules : (n : ℕ) (es : List LatticeEntry) → RowRules n es

@@ -14,7 +14,7 @@ use Rattle.ground.specs.Entry.{noneLink}
 use Rattle.lattice.specs.Words.{Word, Given, count, candidate}
 use Rattle.lattice.specs.Lattice.{LatticeEntry, entryNumbered, mark, unreached, endsAt, offers, cheaper, taken, entryBy, jointsOf, entriesTo, lattice}
 use Rattle.lattice.specs.Rows.{nexts, nextsFrom}
-use Rattle.lattice.specs.Passed.{Passed}
+use Rattle.lattice.specs.Accepted.{Accepted}
 use Rattle.lattice.specs.Rules.{Joins, Ruled, Rules, costFrom}
 use Rattle.lattice.specs.declared.relaxation.Offer.{Offer}
 use Rattle.lattice.proofs.OrderLaws.{ints}
@@ -169,7 +169,7 @@ module _ (n : ℕ) (g : Given) where
       let l : length L ≤ j = rw lattice-length (omega arith) in
       rw (List·getD-eq-default L (unreached (mark 0)) l)
 
-  module _ (passed : Passed n g) where
+  module _ (passed : Accepted n g) where
     -- no candidate from k on, nor the end mark, ends where candidate k starts
     quiet : (k j : ℕ) → k < c → k < j → endsAt (candidate g k .start) (entryNumbered L j) ≡ false
     quiet k zero h l = absurd (omega arith)

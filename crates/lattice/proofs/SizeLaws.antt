@@ -12,8 +12,8 @@ use mir.Val.{SFits, hbits}
 use Rattle.ground.specs.Limits.{characterLimit, priceLimit}
 use Rattle.lattice.specs.Words.{Word}
 use Rattle.lattice.specs.Lattice.{entryBy}
-use Rattle.lattice.specs.Size.{up, down, mostEach, leastEach, leastCost, mostCost, InRange}
-use Rattle.lattice.specs.Inner.{Near, NearTaken, takenOf, Sized, SumFits}
+use Rattle.lattice.specs.Size.{mostEach, leastEach, leastCost, mostCost, InRange}
+use Rattle.lattice.specs.Inner.{up, down, Near, NearTaken, takenOf, Sized, SumFits}
 use Rattle.lattice.specs.declared.relaxation.Offer.{Offer}
 use Rattle.lattice.proofs.OrderLaws.{le-show}
 
@@ -74,23 +74,23 @@ pub in-range : (z : ℤ) → up z ≤ 536887295 → down z ≤ 402685952 → InR
 in-range z h l = record { least = le-show leastCost z (omega arith); most = le-show z mostCost (omega arith) }
 
 -- An extra and a word cost, by their distances from zero.
-pub record Priced (price : ℤ) : Type 0 where
-  pub most : up price ≤ 65534
-  pub least : down price ≤ 65536
+pub record SmallOwn (ownCost : ℤ) : Type 0 where
+  pub most : up ownCost ≤ 65534
+  pub least : down ownCost ≤ 65536
 
 -- An entry's cost lies near by where it ends, if its offer lies near by where it starts and its word has a length.
-pub sized-entry : (w : Word) (m : Option Offer) → NearTaken (w .start) (takenOf m) → Priced (w .price)
-    → w .start < w .end → w .charge ≤ (w .end - w .start) * priceLimit → Sized (entryBy w m)
-sized-entry w none near priced forward charged = record { most = omega arith; least = omega arith }
-sized-entry w (some o) near priced forward charged =
+pub sized-entry : (w : Word) (m : Option Offer) → NearTaken (w .start) (takenOf m) → SmallOwn (w .ownCost)
+    → w .start < w .end → w .charged ≤ (w .end - w .start) * priceLimit → Sized (entryBy w m)
+sized-entry w none near small forward charged = record { most = omega arith; least = omega arith }
+sized-entry w (some o) near small forward charged =
     record {
-      most = omega (arith, sum-up (o .cost) (w .price), near .most, priced .most);
-      least = omega (arith, sum-down (o .cost) (w .price), near .least, priced .least);
+      most = omega (arith, sum-up (o .cost) (w .ownCost), near .most, small .most);
+      least = omega (arith, sum-down (o .cost) (w .ownCost), near .least, small .least);
     }
 
--- The offer that a word takes and its price can be summed.
-pub sum-of : (position : ℕ) (m : Option Offer) (price : ℤ) → NearTaken position (takenOf m) → Priced price → position ≤ characterLimit
-    → SumFits (takenOf m) price
-sum-of position none price near priced few = tt
-sum-of position (some o) price near priced few =
-    sum-fits w32 (o .cost) price (omega (arith, near .most, priced .most)) (omega (arith, near .least, priced .least))
+-- The offer that a word takes and its ownCost can be summed.
+pub sum-of : (position : ℕ) (m : Option Offer) (ownCost : ℤ) → NearTaken position (takenOf m) → SmallOwn ownCost → position ≤ characterLimit
+    → SumFits (takenOf m) ownCost
+sum-of position none ownCost near small few = tt
+sum-of position (some o) ownCost near small few =
+    sum-fits w32 (o .cost) ownCost (omega (arith, near .most, small .most)) (omega (arith, near .least, small .least))

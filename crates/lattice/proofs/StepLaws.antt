@@ -15,18 +15,18 @@ use Rattle.ground.proofs.EntryLaws.{entry-fits}
 use Rattle.ground.proofs.MatrixLaws.{joint-row, row-length}
 use Rattle.ground.proofs.ChargeLaws.{charge-most}
 use Rattle.lattice.specs.Words.{Word, Given, count, candidate, candidatesTo, upFrom}
-use Rattle.lattice.specs.Lattice.{LatticeEntry, entryNumbered, unreached, mark, offers, taken, entryBy, with, grow, jointsOf, entriesTo, lattice}
-use Rattle.lattice.specs.Rows.{LatticeRows, Filled, linkOf, lastAt, firsts, lasts, costs, nexts}
-use Rattle.lattice.specs.Passed.{Passed}
+use Rattle.lattice.specs.Lattice.{LatticeEntry, entryNumbered, unreached, mark, offers, taken, entryBy, oneMore, grow, jointsOf, entriesTo, lattice}
+use Rattle.lattice.specs.Rows.{LatticeRows, Filled, linkOf, lastAt, firsts, lasts, costs, nexts, Room}
+use Rattle.lattice.specs.Accepted.{Accepted}
 use Rattle.lattice.specs.Size.{InRange, AllInRange}
-use Rattle.lattice.specs.Inner.{takenOf, inRow, chargeTo, NearTaken, Offering, Held, Sized, AllSized, Room, Linkable, entered}
+use Rattle.lattice.specs.Inner.{takenOf, inRow, chargeTo, NearTaken, Offering, Held, Sized, AllSized, Linkable, entered}
 use Rattle.lattice.specs.declared.relaxation.Offer.{Offer}
 use Rattle.lattice.proofs.LatticeLaws.{entries-suc, entries-length, entries-start, wordNumbered, entry-word, lattice-end}
 use Rattle.lattice.proofs.RowRules.{firsts-at, lasts-at, costs-at}
 use Rattle.lattice.proofs.OverLaws.{held-room, held-at}
 use Rattle.lattice.proofs.FillLaws.{firsts-length, lasts-length, costs-length, nexts-length, fill-entered}
 use Rattle.lattice.proofs.LinkLaws.{last-listed}
-use Rattle.lattice.proofs.SizeLaws.{sum-up, sum-down, in-range, Priced, sized-entry}
+use Rattle.lattice.proofs.SizeLaws.{sum-up, sum-down, in-range, SmallOwn, sized-entry}
 
 -- ---- a row of the matrix offers what the matrix does
 module _ (g : Given) (w : Word) where
@@ -42,7 +42,7 @@ module _ (g : Given) (w : Word) where
   row-taken es = rw (row-offers 0 es)
 
 -- ---- the rows hold the entries so far
-module _ (n : ℕ) (g : Given) (ok : Passed n g) (k : ℕ) (most : k ≤ count g) (t : LatticeRows) (room : Room n (count g + 2) t) (f : Filled n (entriesTo g k) t t) (sized : AllSized (entriesTo g k)) where
+module _ (n : ℕ) (g : Given) (ok : Accepted n g) (k : ℕ) (most : k ≤ count g) (t : LatticeRows) (room : Room n (count g + 2) t) (f : Filled n (entriesTo g k) t t) (sized : AllSized (entriesTo g k)) where
   abbrev es : List LatticeEntry
   es = entriesTo g k
 
@@ -60,7 +60,7 @@ module _ (n : ℕ) (g : Given) (ok : Passed n g) (k : ℕ) (most : k ≤ count g
     abbrev at : List ℤ
     at = matrixRow (g .matrix) (g .width) l
 
-    charge-is : (j : ℕ) → candidate g j .end ≡ position → candidate g j .charge ≡ chargeTo (g .start) (g .run) (g .mode) position j
+    charge-is : (j : ℕ) → candidate g j .end ≡ position → candidate g j .charged ≡ chargeTo (g .start) (g .run) (g .mode) position j
     charge-is j e = rw e
 
     -- what candidate j offers, if it ends at the position, can be read
@@ -122,10 +122,10 @@ module _ (n : ℕ) (g : Given) (ok : Passed n g) (k : ℕ) (most : k ≤ count g
           omega (arith, last-listed position 0 es i q .high, entries-length g k, room .next)
 
   -- and the rows then hold one entry more
-  stepped : (w : Word) → w .end ≤ n → Filled n (with (jointsOf g) es w) t (entered (suc k) (w .end) (takenOf (taken (jointsOf g) es w)) (w .price) t)
+  stepped : (w : Word) → w .end ≤ n → Filled n (oneMore (jointsOf g) es w) t (entered (suc k) (w .end) (takenOf (taken (jointsOf g) es w)) (w .ownCost) t)
   stepped w inside =
       let l = entries-length g k in
-      subst (λ (x : ℕ). Filled n (with (jointsOf g) es w) t (entered x (w .end) (takenOf (taken (jointsOf g) es w)) (w .price) t)) l
+      subst (λ (x : ℕ). Filled n (oneMore (jointsOf g) es w) t (entered x (w .end) (takenOf (taken (jointsOf g) es w)) (w .ownCost) t)) l
       (fill-entered n es w (taken (jointsOf g) es w) t t f
       (record {
         first = room .first;
@@ -139,7 +139,7 @@ module _ (n : ℕ) (g : Given) (ok : Passed n g) (k : ℕ) (most : k ≤ count g
 
   -- for candidate k
   pub stepped-candidate : k < count g → let w = candidate g k in
-      Filled n (entriesTo g (suc k)) t (entered (suc k) (w .end) (takenOf (taken (jointsOf g) es w)) (w .price) t)
+      Filled n (entriesTo g (suc k)) t (entered (suc k) (w .end) (takenOf (taken (jointsOf g) es w)) (w .ownCost) t)
   stepped-candidate h = rw (entries-suc g k) (stepped (candidate g k) (ok .inside k h))
 
   -- for the end mark, after all candidates
@@ -157,16 +157,16 @@ each-snoc P es e h p i l = go (decLt i (length es))
         let q : i ≡ length es = omega (arith, rw length-append at l) in
         rw (q, getD-append-seam es e [] (unreached (mark 0))) p
 
-module _ (n : ℕ) (g : Given) (ok : Passed n g) where
+module _ (n : ℕ) (g : Given) (ok : Accepted n g) where
   -- the entry of candidate k lies near, if its offer does
   pub sized-next : (k : ℕ) → k < count g → AllSized (entriesTo g k)
-      → NearTaken (candidate g k .start) (takenOf (taken (jointsOf g) (entriesTo g k) (candidate g k))) → Priced (candidate g k .price)
+      → NearTaken (candidate g k .start) (takenOf (taken (jointsOf g) (entriesTo g k) (candidate g k))) → SmallOwn (candidate g k .ownCost)
       → AllSized (entriesTo g (suc k))
-  sized-next k h sized near priced =
+  sized-next k h sized near small =
       let w = candidate g k in
       rw (entries-suc g k)
       (each-snoc Sized (entriesTo g k) (entryBy w (taken (jointsOf g) (entriesTo g k) w)) sized
-      (sized-entry w (taken (jointsOf g) (entriesTo g k) w) near priced (ok .forward k h)
+      (sized-entry w (taken (jointsOf g) (entriesTo g k) w) near small (ok .forward k h)
       (charge-most (g .mode) (getD (g .run) (w .start) 0) (w .end - w .start) (ok .priced))))
 
   -- the start mark does

@@ -5,7 +5,7 @@ use mathlib.Core.Bool.{cond}
 use mathlib.Core.List.{List}
 use mathlib.Core.Option.{Option, none, some}
 use lib.ListN.{length, getD, set}
-use lib.IntN.{ℤ, pos, _+ℤ_}
+use lib.IntN.{ℤ, pos, negsuc, _+ℤ_}
 use lib.Dec.{eqb}
 use mir.Syntax.{w32}
 use mir.Val.{SFits}
@@ -14,13 +14,24 @@ use Rattle.ground.specs.Entry.{entryAt, entryBytes, noneLink}
 use Rattle.ground.specs.Matrix.{valueIn}
 use Rattle.ground.specs.Charge.{charge, PricesFit}
 use Rattle.ground.specs.declared.charge.Mode.{Mode}
-use Rattle.lattice.specs.Size.{up, down, mostEach, leastEach}
+use Rattle.lattice.specs.Size.{mostEach, leastEach}
 use Rattle.lattice.specs.Words.{Word}
 use Rattle.lattice.specs.Lattice.{LatticeEntry, entryNumbered, startMark}
 use Rattle.lattice.specs.Rows.{LatticeRows, rows, firstAt, nexts, linkOf}
 use Rattle.lattice.specs.declared.relaxation.Offer.{Offer}
 use Rattle.lattice.specs.declared.relaxation.Taken.{Taken}
 use Rattle.lattice.specs.declared.relaxation.Taken.the-variants.{Least, Nothing}
+
+-- ---- sizes
+
+-- How far a whole number lies above zero, and below.
+abbrev pub up : ℤ → ℕ
+up (pos n) = n
+up (negsuc n) = 0
+
+abbrev pub down : ℤ → ℕ
+down (pos n) = 0
+down (negsuc n) = suc n
 
 -- ---- the relaxation
 
@@ -54,7 +65,7 @@ offerOf row start entry run mode cost position k =
 
 -- How far from zero an entry's cost lies, with its charge, by where it ends; and an offer's, by the position.
 pub record Sized (e : LatticeEntry) : Type 0 where
-  pub most : up (e .cost) + e .word .charge ≤ mostEach * e .word .end
+  pub most : up (e .cost) + e .word .charged ≤ mostEach * e .word .end
   pub least : down (e .cost) ≤ leastEach * e .word .end
 
 pub record Near (position : ℕ) (z : ℤ) : Type 0 where
@@ -87,7 +98,7 @@ pub record Held (position : ℕ) (es : List LatticeEntry) (row : List ℤ) (star
   pub follows : (i : ℕ) → i < length es → getD next i 0 ≡ getD (nexts es) i 0
   pub right : (k : ℕ) → suc k < length es → entryNumbered es (suc k) .word .rightId ≡ entryAt entry k .«right_id»
   pub charge : (k : ℕ) → suc k < length es → entryNumbered es (suc k) .word .end ≡ position
-      → entryNumbered es (suc k) .word .charge ≡ chargeTo start run mode position k
+      → entryNumbered es (suc k) .word .charged ≡ chargeTo start run mode position k
   pub costs : (i : ℕ) → i < length es → entryNumbered es i .cost ≡ getD cost i (pos 0)
   pub offering : (k : ℕ) → suc k < length es → entryNumbered es (suc k) .word .end ≡ position
       → Offering row start entry run mode cost position k
@@ -116,35 +127,27 @@ linkedNext x position last next =
 
 -- Entry x can be written, by the offer that it takes.
 abbrev pub SumFits : Taken → ℤ → Type 0
-SumFits Nothing price = Unit {0}
-SumFits (Least offer) price = SFits w32 (offer .cost +ℤ price)
+SumFits Nothing ownCost = Unit {0}
+SumFits (Least offer) ownCost = SFits w32 (offer .cost +ℤ ownCost)
 
-pub record Enterable (x : ℕ) (taken : Taken) (price : ℤ) (left : List ℕ) (cost : List ℤ) : Type 0 where
+pub record Enterable (x : ℕ) (taken : Taken) (ownCost : ℤ) (left : List ℕ) (cost : List ℤ) : Type 0 where
   pub inLeft : x < length left
   pub inCost : x < length cost
-  pub fits : SumFits taken price
+  pub fits : SumFits taken ownCost
 
 -- The rows with entry x, which ends at a position.
 abbrev pub entered : ℕ → ℕ → Taken → ℤ → LatticeRows → LatticeRows
-entered x position Nothing price r =
+entered x position Nothing ownCost r =
     rows (r .first) (r .last) (set (r .left) x noneLink) (set (r .cost) x (pos 0)) (set (r .next) x noneLink)
-entered x position (Least offer) price r =
+entered x position (Least offer) ownCost r =
     rows
     (linkedFirst x position (r .last) (r .first))
     (linkedLast x position (r .last))
     (set (r .left) x (offer .from))
-    (set (r .cost) x (offer .cost +ℤ price))
+    (set (r .cost) x (offer .cost +ℤ ownCost))
     (linkedNext x position (r .last) (r .next))
 
 -- ---- the whole pass
-
--- The rows have room for the positions up to n and for m entries.
-pub record Room (n m : ℕ) (r : LatticeRows) : Type 0 where
-  pub first : n < length (r .first)
-  pub last : n < length (r .last)
-  pub left : m ≤ length (r .left)
-  pub cost : m ≤ length (r .cost)
-  pub next : m ≤ length (r .next)
 
 -- All entries are of such a size.
 abbrev pub AllSized : List LatticeEntry → Type 0

@@ -19,9 +19,10 @@ pub record LatticeEntry : Type 0 where
   pub cost : ℤ
   pub left : ℕ
 
--- A mark at a position: it starts and ends there, its ids are 0, and it costs nothing.
+-- A mark at a position: it starts and ends there, its ids are 0, and it costs nothing. (Of the start mark only the right id is read, of the end
+-- mark only the left id.)
 abbrev pub mark : ℕ → Word
-mark position = record { start = position; end = position; leftId = markId; rightId = markId; charge = 0; price = pos 0 }
+mark position = record { start = position; end = position; leftId = markId; rightId = markId; charged = 0; ownCost = pos 0 }
 
 -- Entry 0, the start mark: reached, ends at 0, cost 0, left none.
 abbrev pub startMark : LatticeEntry
@@ -31,7 +32,7 @@ startMark = record { word = mark 0; reached = true; cost = pos 0; left = noneLin
 abbrev pub unreached : Word → LatticeEntry
 unreached w = record { word = w; reached = false; cost = pos 0; left = noneLink }
 
--- Entry i of a list of entries. (None stands beyond its end: there it is unreached.)
+-- Entry i of a list of entries; beyond the list, an unreached one.
 abbrev pub entryNumbered : List LatticeEntry → ℕ → LatticeEntry
 entryNumbered es i = getD es i (unreached (mark 0))
 
@@ -43,7 +44,7 @@ endsAt position e = e .reached && eqb (e .word .end) position
 
 -- What it costs a word to come from an entry: the entry's cost + joint + charge.
 abbrev pub via : (ℕ → ℕ → ℤ) → Word → LatticeEntry → ℤ
-via joints w e = e .cost +ℤ joints (w .leftId) (e .word .rightId) +ℤ pos (e .word .charge)
+via joints w e = e .cost +ℤ joints (w .leftId) (e .word .rightId) +ℤ pos (e .word .charged)
 
 -- The offer of entry number i.
 abbrev pub offer : (ℕ → ℕ → ℤ) → Word → ℕ → LatticeEntry → Offer
@@ -85,17 +86,17 @@ taken joints es w = least cheaper (offers joints w 0 es)
 -- A word's entry, by the offer that it takes: the offer's cost, then + extra + word cost.
 abbrev pub entryBy : Word → Option Offer → LatticeEntry
 entryBy w none = unreached w
-entryBy w (some o) = record { word = w; reached = true; cost = o .cost +ℤ w .price; left = o .from }
+entryBy w (some o) = record { word = w; reached = true; cost = o .cost +ℤ w .ownCost; left = o .from }
 
--- One more entry, for a word that is offered what those before it offer. (Every entry that ends where a candidate starts has a lower number, so
--- these are all: `over-all` in RuleLaws.)
-abbrev pub with : (ℕ → ℕ → ℤ) → List LatticeEntry → Word → List LatticeEntry
-with joints es w = es ++ (entryBy w (taken joints es w) ∷ [])
+-- One more entry, for a word that is offered what those before it offer. (These are all: every entry that ends where a candidate starts has a
+-- lower number, if the tests have passed, and so have all others than the end mark: `over-all` and `rules` in RuleLaws.)
+abbrev pub oneMore : (ℕ → ℕ → ℤ) → List LatticeEntry → Word → List LatticeEntry
+oneMore joints es w = es ++ (entryBy w (taken joints es w) ∷ [])
 
 -- One more for each word.
 unfoldable pub grow : (ℕ → ℕ → ℤ) → List LatticeEntry → List Word → List LatticeEntry
 grow joints es [] = es
-grow joints es (w ∷ ws) = grow joints (with joints es w) ws
+grow joints es (w ∷ ws) = grow joints (oneMore joints es w) ws
 
 -- The joints of the matrix.
 abbrev pub jointsOf : Given → ℕ → ℕ → ℤ

@@ -2,7 +2,7 @@
 pub mod Words
 pub mod Lattice
 pub mod Rows
-pub mod Passed
+pub mod Accepted
 pub mod Rules
 pub mod Size
 -- Inner, no part of document 01:

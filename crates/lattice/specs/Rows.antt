@@ -1,9 +1,10 @@
 -- Document 01, "The lattice": the five rows, and what they hold after the forward pass.
-use Prim.Native.Nat.{ℕ, suc}
+use Prim.Native.Nat.{ℕ, suc, _≤_, _<_}
 use mathlib.Core.Path.{_≡_}
-use mathlib.Core.Bool.{Bool, true, false}
+use mathlib.Core.Bool.{Bool, cond}
 use mathlib.Core.List.{List, [], _∷_, map}
 use mathlib.Core.Option.{Option, none, some, orElse}
+use lib.ListN.{length}
 use lib.IntN.{ℤ}
 use Rattle.ground.specs.Entry.{noneLink}
 use Rattle.ground.specs.Rows.{over}
@@ -12,8 +13,7 @@ use Rattle.lattice.specs.Lattice.{LatticeEntry, endsAt}
 
 -- x where the test holds.
 abbrev pub onlyIf {ℓ} : {A : Type ℓ} → Bool → A → Option A
-onlyIf true x = some x
-onlyIf false x = none
+onlyIf t x = cond t (some x) none
 
 -- How a row holds a number, or that there is none.
 abbrev pub linkOf : Option ℕ → ℕ
@@ -31,10 +31,9 @@ unfolding orElse
 lastAt position i [] = none
 lastAt position i (e ∷ es) = orElse (lastAt position (suc i) es) (onlyIf (endsAt position e) i)
 
--- What comes next after an entry: if it is reached, the first of the higher ones that ends where it does.
+-- What comes next after an entry: if it is reached, the first of the higher reached ones that end where it does.
 abbrev pub nextOf : Bool → Option ℕ → Option ℕ
-nextOf true higher = higher
-nextOf false higher = none
+nextOf reached higher = cond reached higher none
 
 -- ---- the rows, as lists: of the positions 0 to n, and of the entries
 
@@ -74,10 +73,19 @@ pub record LatticeRows : Type 0 where
 abbrev pub rows : List ℕ → List ℕ → List ℕ → List ℤ → List ℕ → LatticeRows
 rows first last left cost next = record { first = first; last = last; left = left; cost = cost; next = next }
 
--- The rows after a call that writes these entries, from the rows before it: places beyond keep their contents.
+-- The rows after a call that writes these entries, from the rows before it: places beyond keep their contents. (None changes its length:
+-- `fill-lengths` in FillLaws.)
 pub record Filled (n : ℕ) (es : List LatticeEntry) (old new : LatticeRows) : Type 0 where
   pub first : new .first ≡ over (firsts n es) (old .first)
   pub last : new .last ≡ over (lasts n es) (old .last)
   pub left : new .left ≡ over (lefts es) (old .left)
   pub cost : new .cost ≡ over (costs es) (old .cost)
   pub next : new .next ≡ over (nexts es) (old .next)
+
+-- The rows have room for the positions up to n and for m entries (document 01, test 7).
+pub record Room (n m : ℕ) (r : LatticeRows) : Type 0 where
+  pub first : n < length (r .first)
+  pub last : n < length (r .last)
+  pub left : m ≤ length (r .left)
+  pub cost : m ≤ length (r .cost)
+  pub next : m ≤ length (r .next)

@@ -7,14 +7,14 @@ use Rattle.ground.specs.Entry.{entryAt}
 use Rattle.ground.specs.Charge.{charge}
 use Rattle.ground.specs.declared.charge.Mode.{Mode}
 
--- A word as it can stand in the sentence: a candidate, or a mark.
+-- What can stand in the sentence: a candidate, or a mark, which is taken as a word of length 0.
 pub record Word : Type 0 where
   pub start : ℕ
   pub end : ℕ
   pub leftId : ℕ
   pub rightId : ℕ
-  pub charge : ℕ  -- when it stands on the left of a joint
-  pub price : ℤ  -- its extra and its word cost
+  pub charged : ℕ  -- when it stands on the left of a joint
+  pub ownCost : ℤ  -- its extra and its word cost
 
 -- What the lattice reads of a job: the candidate rows, the kanji runs, the mode, and the matrix with its width.
 pub record Given : Type 0 where
@@ -41,14 +41,14 @@ abbrev pub candidate : Given → ℕ → Word
 candidate g k =
     let start = getD (g .start) k 0 in
     let end = getD (g .end) k 0 in
-    let entry = entryAt (g .entry) k in
+    let wordEntry = entryAt (g .entry) k in
     record {
       start = start;
       end = end;
-      leftId = entry .«left_id»;
-      rightId = entry .«right_id»;
-      charge = charge (g .mode) (getD (g .run) start 0) (end - start);
-      price = getD (g .extra) k (pos 0) +ℤ entry .cost;
+      leftId = wordEntry .«left_id»;
+      rightId = wordEntry .«right_id»;
+      charged = charge (g .mode) (getD (g .run) start 0) (end - start);
+      ownCost = getD (g .extra) k (pos 0) +ℤ wordEntry .cost;
     }
 
 -- from, from + 1, .., `many` numbers.

@@ -13,10 +13,10 @@ ghost use lib.IntN.{pos, _+ℤ_};
 ghost use Rattle.ground.specs.Entry.{entryAt, entryBytes};
 ghost use Rattle.lattice.specs.Words.{given};
 ghost use Rattle.lattice.specs.Lattice.{startMark, entriesTo, lattice};
-ghost use Rattle.lattice.specs.Rows.{rows, Filled};
-ghost use Rattle.lattice.specs.Passed.{Passed};
-ghost use Rattle.lattice.specs.Size.{up, down, AllInRange};
-ghost use Rattle.lattice.specs.Inner.{Room, AllSized};
+ghost use Rattle.lattice.specs.Rows.{rows, Filled, Room};
+ghost use Rattle.lattice.specs.Accepted.{Accepted};
+ghost use Rattle.lattice.specs.Size.{AllInRange};
+ghost use Rattle.lattice.specs.Inner.{up, down, AllSized};
 
 // The start mark goes into the rows.
 fn start_mark(
@@ -39,7 +39,7 @@ fn start_mark(
 }
 
 // The extra and the word cost of candidate k.
-fn price(extra: i16, word_cost: i16) -> i32
+fn own_cost(extra: i16, word_cost: i16) -> i32
     ensures { λ r. ⌜ (r ≡ extra +ℤ «word_cost») × (up r ≤ 65534) × (down r ≤ 65536) ⌝ }
 {
     signed::add(signed::widened(extra), signed::widened(word_cost))
@@ -63,7 +63,7 @@ fn candidate(
     cost: &mut [i32],
     next: &mut [u16],
 )
-    requires { ⌜ (k < length (now start)) × Passed n (given (now start) (now end) (now extra) (now entry) (now run) mode (now matrix) width) × AllSized (entriesTo (given (now start) (now end) (now extra) (now entry) (now run) mode (now matrix) width) k) ⌝ }
+    requires { ⌜ (k < length (now start)) × Accepted n (given (now start) (now end) (now extra) (now entry) (now run) mode (now matrix) width) × AllSized (entriesTo (given (now start) (now end) (now extra) (now entry) (now run) mode (now matrix) width) k) ⌝ }
     requires { ⌜ Room n (length (now start) + 2) (rows (now first) (now last) (now left) (now cost) (now next)) × Filled n (entriesTo (given (now start) (now end) (now extra) (now entry) (now run) mode (now matrix) width) k) (rows (now first) (now last) (now left) (now cost) (now next)) (rows (now first) (now last) (now left) (now cost) (now next)) ⌝ }
     ensures { λ _. ⌜ Filled n (entriesTo (given (now (start .entry)) (now (end .entry)) (now (extra .entry)) (now (entry .entry)) (now (run .entry)) mode (now (matrix .entry)) width) (suc k)) (rows (now (first .entry)) (now (last .entry)) (now (left .entry)) (now (cost .entry)) (now (next .entry))) (rows (now (first .exit)) (now (last .exit)) (now (left .exit)) (now (cost .exit)) (now (next .exit))) ⌝ }
     ensures { λ _. ⌜ AllSized (entriesTo (given (now (start .entry)) (now (end .entry)) (now (extra .entry)) (now (entry .entry)) (now (run .entry)) mode (now (matrix .entry)) width) (suc k)) ⌝ }
@@ -71,12 +71,12 @@ fn candidate(
     let word = Entry::read(entry, k);
     let row = matrix::row(matrix, width, word.left_id as usize);
     let taken = relaxation::relax(start[k], row, start, entry, run, mode, first, cost, next);
-    let price = price(extra[k], word.cost);
+    let own_cost = own_cost(extra[k], word.cost);
     rows::enter(
         (k + 1) as u16,
         end[k] as usize,
         taken,
-        price,
+        own_cost,
         first,
         last,
         left,
@@ -102,7 +102,7 @@ fn candidates(
     cost: &mut [i32],
     next: &mut [u16],
 )
-    requires { ⌜ Passed n (given (now start) (now end) (now extra) (now entry) (now run) mode (now matrix) width) ⌝ }
+    requires { ⌜ Accepted n (given (now start) (now end) (now extra) (now entry) (now run) mode (now matrix) width) ⌝ }
     requires { ⌜ Room n (length (now start) + 2) (rows (now first) (now last) (now left) (now cost) (now next)) × Filled n (startMark ∷ []) (rows (now first) (now last) (now left) (now cost) (now next)) (rows (now first) (now last) (now left) (now cost) (now next)) ⌝ }
     ensures { λ _. ⌜ Filled n (entriesTo (given (now (start .entry)) (now (end .entry)) (now (extra .entry)) (now (entry .entry)) (now (run .entry)) mode (now (matrix .entry)) width) (length (now (start .entry)))) (rows (now (first .entry)) (now (last .entry)) (now (left .entry)) (now (cost .entry)) (now (next .entry))) (rows (now (first .exit)) (now (last .exit)) (now (left .exit)) (now (cost .exit)) (now (next .exit))) ⌝ }
     ensures { λ _. ⌜ AllSized (entriesTo (given (now (start .entry)) (now (end .entry)) (now (extra .entry)) (now (entry .entry)) (now (run .entry)) mode (now (matrix .entry)) width) (length (now (start .entry)))) ⌝ }
@@ -147,7 +147,7 @@ fn end_mark(
     cost: &mut [i32],
     next: &mut [u16],
 )
-    requires { ⌜ Passed n (given (now start) (now end) (now extra) (now entry) (now run) mode (now matrix) width) × AllSized (entriesTo (given (now start) (now end) (now extra) (now entry) (now run) mode (now matrix) width) (length (now start))) ⌝ }
+    requires { ⌜ Accepted n (given (now start) (now end) (now extra) (now entry) (now run) mode (now matrix) width) × AllSized (entriesTo (given (now start) (now end) (now extra) (now entry) (now run) mode (now matrix) width) (length (now start))) ⌝ }
     requires { ⌜ Room n (length (now start) + 2) (rows (now first) (now last) (now left) (now cost) (now next)) × Filled n (entriesTo (given (now start) (now end) (now extra) (now entry) (now run) mode (now matrix) width) (length (now start))) (rows (now first) (now last) (now left) (now cost) (now next)) (rows (now first) (now last) (now left) (now cost) (now next)) ⌝ }
     ensures { λ _. ⌜ Filled n (lattice n (given (now (start .entry)) (now (end .entry)) (now (extra .entry)) (now (entry .entry)) (now (run .entry)) mode (now (matrix .entry)) width)) (rows (now (first .entry)) (now (last .entry)) (now (left .entry)) (now (cost .entry)) (now (next .entry))) (rows (now (first .exit)) (now (last .exit)) (now (left .exit)) (now (cost .exit)) (now (next .exit))) ⌝ }
     ensures { λ _. ⌜ AllInRange (lattice n (given (now (start .entry)) (now (end .entry)) (now (extra .entry)) (now (entry .entry)) (now (run .entry)) mode (now (matrix .entry)) width)) ⌝ }
@@ -184,7 +184,7 @@ pub fn forward_pass(
     cost: &mut [i32],
     next: &mut [u16],
 )
-    requires { ⌜ Passed n (given (now start) (now end) (now extra) (now entry) (now run) mode (now matrix) width) ⌝ }
+    requires { ⌜ Accepted n (given (now start) (now end) (now extra) (now entry) (now run) mode (now matrix) width) ⌝ }
     requires { ⌜ Room n (length (now start) + 2) (rows (now first) (now last) (now left) (now cost) (now next)) ⌝ }
     ensures { λ _. ⌜ Filled n (lattice n (given (now (start .entry)) (now (end .entry)) (now (extra .entry)) (now (entry .entry)) (now (run .entry)) mode (now (matrix .entry)) width)) (rows (now (first .entry)) (now (last .entry)) (now (left .entry)) (now (cost .entry)) (now (next .entry))) (rows (now (first .exit)) (now (last .exit)) (now (left .exit)) (now (cost .exit)) (now (next .exit))) ⌝ }
     ensures { λ _. ⌜ AllInRange (lattice n (given (now (start .entry)) (now (end .entry)) (now (extra .entry)) (now (entry .entry)) (now (run .entry)) mode (now (matrix .entry)) width)) ⌝ }

@@ -5,6 +5,7 @@ use ground::matrix;
 use ground::signed;
 ghost use mathlib.Core.Path.{_≡_};
 ghost use Prim.Native.Nat.{suc, _<_};
+ghost use mathlib.Core.Bool.{cond};
 ghost use mathlib.Core.List.{List};
 ghost use mathlib.Core.Option.{some};
 ghost use lib.ListN.{length, getD};
@@ -62,14 +63,27 @@ fn offer_of(
     }
 }
 
-// The cheaper of two offers; of equals the one that is held.
-fn cheaper(held: Offer, rival: Offer) -> Offer
+// One of two numbers, by a test.
+fn number_if(test: bool, yes: u16, no: u16) -> u16
+    ensures { λ r. ⌜ r ≡ cond test yes no ⌝ }
+{
+    if test { yes } else { no }
+}
+
+fn cost_if(test: bool, yes: i32, no: i32) -> i32
+    ensures { λ r. ⌜ r ≡ cond test yes no ⌝ }
+{
+    if test { yes } else { no }
+}
+
+// The cheaper of two offers; of equals the one that is held. (Number and cost are picked apart, so that the choice needs no jump.)
+fn cheaper_of(held: Offer, rival: Offer) -> Offer
     ensures { λ r. ⌜ r ≡ against cheaper held (some rival) ⌝ }
 {
-    if signed::below(rival.cost, held.cost) {
-        rival
-    } else {
-        held
+    let test = signed::below(rival.cost, held.cost);
+    Offer {
+        from: number_if(test, rival.from, held.from),
+        cost: cost_if(test, rival.cost, held.cost),
     }
 }
 
@@ -97,7 +111,7 @@ fn least_from(
     while following != Entry::NONE {
         at = following as usize;
         let rival = offer_of(at - 1, position, row, start, entry, run, mode, cost);
-        held = cheaper(held, rival);
+        held = cheaper_of(held, rival);
         following = next[at];
     }
     held

@@ -44,7 +44,7 @@ pub fn enter(
     x: u16,
     position: usize,
     taken: Taken,
-    price: i32,
+    own_cost: i32,
     first: &mut [u16],
     last: &mut [u16],
     left: &mut [u16],
@@ -52,8 +52,8 @@ pub fn enter(
     next: &mut [u16],
 )
     requires { ⌜ Linkable x position (now first) (now last) (now next) ⌝ }
-    requires { ⌜ Enterable x taken price (now left) (now cost) ⌝ }
-    ensures { λ _. ⌜ rows (now (first .exit)) (now (last .exit)) (now (left .exit)) (now (cost .exit)) (now (next .exit)) ≡ entered x position taken price (rows (now (first .entry)) (now (last .entry)) (now (left .entry)) (now (cost .entry)) (now (next .entry))) ⌝ }
+    requires { ⌜ Enterable x taken «own_cost» (now left) (now cost) ⌝ }
+    ensures { λ _. ⌜ rows (now (first .exit)) (now (last .exit)) (now (left .exit)) (now (cost .exit)) (now (next .exit)) ≡ entered x position taken «own_cost» (rows (now (first .entry)) (now (last .entry)) (now (left .entry)) (now (cost .entry)) (now (next .entry))) ⌝ }
 {
     let at = x as usize;
     match taken {
@@ -65,7 +65,7 @@ pub fn enter(
         }
         Taken::Least(offer) => {
             left[at] = offer.from;
-            let sum = signed::add(offer.cost, price);
+            let sum = signed::add(offer.cost, own_cost);
             cost[at] = sum;
             link(x, position, first, last, next);
         }

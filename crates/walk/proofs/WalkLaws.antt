@@ -10,11 +10,11 @@ use lib.IntN.{pos}
 use lib.Dec.{ltb, eqb}
 use borrow.Author.Tests.{ltb-true, ltb-false, eqb-true}
 use Rattle.ground.specs.Entry.{noneLink}
-use Rattle.ground.specs.Characters.{refuse}
+use Rattle.ground.specs.Answer.{refuse}
 use Rattle.ground.specs.declared.answer.Answer.{Answer}
 use Rattle.ground.specs.declared.answer.Answer.the-variants.{Done, ShortRow, BrokenLink}
 use Rattle.ground.proofs.RowLaws.{over-length}
-use Rattle.walk.specs.WalkBack.{endsThere, linkAt, follow, walkFrom, walkBack, Outcome, outcome, walkRefused, writtenUnless, walkedBack}
+use Rattle.walk.specs.WalkBack.{endsThere, linkAt, follow, walkFrom, walkBack, Outcome, outcome, walkRefused, writtenUnless, walkBackAlone}
 use Rattle.walk.specs.Inner.{walkedOf, linked, Sure}
 use Rattle.walk.specs.declared.walk_back.Link.{Link}
 use Rattle.walk.specs.declared.walk_back.Link.the-variants.{ToStart, ToCandidate, Broken}
@@ -239,8 +239,8 @@ module _ (start end left : List ℕ) (n : ℕ) (word : List ℕ) where
   row-fits e = ltb-false (length word) n (last-passed _ _ _ (ltb (length left) (length start + 2)) _ e .1)
 
   -- the output row is as long as it came
-  pub word-kept : length (walkedBack start end left n word .word) ≡ length word
-  unfolding walkedBack
+  pub word-kept : length (walkBackAlone start end left n word .word) ≡ length word
+  unfolding walkBackAlone
   word-kept = go (walkRefused start end left n word) refl (walkBack start end left n) refl
     where
       go : (refused : Option Answer) → walkRefused start end left n word ≡ refused → (walked : Option (List ℕ)) → walkBack start end left n ≡ walked
@@ -265,7 +265,7 @@ whole-found (some found) count e = (found, refl, cc)
 -- Document 01's example B, its left row given; then no text; then links that are broken: to none, to the end mark, to entry 0 too early,
 -- to a candidate that ends elsewhere, to one whose start is its end, and to itself. The output row has four places, which hold 7 before.
 walked : List ℕ → List ℕ → List ℕ → ℕ → Outcome
-walked start end left n = walkedBack start end left n (7 ∷ 7 ∷ 7 ∷ 7 ∷ [])
+walked start end left n = walkBackAlone start end left n (7 ∷ 7 ∷ 7 ∷ 7 ∷ [])
 
 examples :
     walked (0 ∷ 0 ∷ 1 ∷ 1 ∷ 2 ∷ []) (1 ∷ 2 ∷ 2 ∷ 3 ∷ 3 ∷ []) (65535 ∷ 0 ∷ 0 ∷ 1 ∷ 1 ∷ 2 ∷ 5 ∷ []) 3
@@ -286,5 +286,5 @@ examples :
     ∷ outcome BrokenLink (7 ∷ 7 ∷ 7 ∷ 7 ∷ [])
     ∷ outcome BrokenLink (7 ∷ 7 ∷ 7 ∷ 7 ∷ [])
     ∷ []
-unfolding walked walkedBack walkBack walkFrom orElse
+unfolding walked walkBackAlone walkBack walkFrom orElse
 examples = refl

@@ -9,7 +9,7 @@ use lib.Dec.{ltb, eqb}
 use Rattle.ground.specs.Limits.{characterLimit, candidateLimit}
 use Rattle.ground.specs.Rows.{over}
 use Rattle.ground.specs.Entry.{noneLink}
-use Rattle.ground.specs.Characters.{refuse}
+use Rattle.ground.specs.Answer.{refuse}
 use Rattle.ground.specs.declared.answer.Answer.{Answer}
 use Rattle.ground.specs.declared.answer.Answer.the-variants.{Done, TooLong, Uneven, TooMany, ShortRow, BrokenLink}
 use Rattle.walk.specs.declared.walk_back.Link.{Link}
@@ -35,15 +35,15 @@ follow ToStart found step = some found
 follow (ToCandidate k) found step = step k
 follow Broken found step = none
 
--- The walk from an entry at a position, in front of the candidates found so far, in at most `most` links.
+-- The walk from an entry, by its number, at a position, in front of the candidates found so far, in at most `most` links.
 unfoldable pub walkFrom : List ℕ → List ℕ → List ℕ → ℕ → ℕ → ℕ → List ℕ → Option (List ℕ)
-walkFrom start end left zero position entry found = none
-walkFrom start end left (suc most) position entry found =
-    follow (linkAt start end position (getD left entry noneLink)) found
+walkFrom start end left zero position number found = none
+walkFrom start end left (suc most) position number found =
+    follow (linkAt start end position (getD left number noneLink)) found
     (λ (k : ℕ). walkFrom start end left most (getD start k 0) (suc k) (k ∷ found))
 
 -- The walk back from entry c + 1 at position n: the candidates in sentence order, or none where a followed link is broken. (Each right link
--- to a candidate leads to a lower position, so n + 1 links are enough: `enough` in WalkLaws.)
+-- to a candidate leads to a lower position, so n + 1 links are enough: `enough` and `broken-exactly` in WalkLaws.)
 unfoldable pub walkBack : List ℕ → List ℕ → List ℕ → ℕ → Option (List ℕ)
 unfolding walkFrom
 walkBack start end left n = walkFrom start end left (suc n) n (suc (length start)) []
@@ -67,7 +67,7 @@ walkRefused start end left n word =
     (orElse (refuse (ltb candidateLimit (length start)) TooMany)
     (refuse (ltb (length left) (length start + 2) || ltb (length word) n) ShortRow)))
 
--- 13 where a followed link is broken; otherwise the candidates' numbers in sentence order, and the places beyond keep their contents.
+-- 13, and nothing changes, where a followed link is broken; otherwise the candidates' numbers in sentence order, and the places beyond keep their contents.
 abbrev pub written : Option (List ℕ) → List ℕ → Outcome
 written none word = outcome BrokenLink word
 written (some found) word = outcome (Done (length found) (pos 0)) (over found word)
@@ -78,7 +78,7 @@ writtenUnless (some answer) walked word = outcome answer word
 writtenUnless none walked word = written walked word
 
 -- The walk back alone: the tests, then the walk.
-unfoldable pub walkedBack : List ℕ → List ℕ → List ℕ → ℕ → List ℕ → Outcome
+unfoldable pub walkBackAlone : List ℕ → List ℕ → List ℕ → ℕ → List ℕ → Outcome
 unfolding walkBack
-walkedBack start end left n word =
+walkBackAlone start end left n word =
     writtenUnless (walkRefused start end left n word) (walkBack start end left n) word

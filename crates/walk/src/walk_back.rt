@@ -7,7 +7,7 @@ ghost use Prim.Native.Nat.{_+_, _≤_};
 ghost use mathlib.Core.List.{[]};
 ghost use lib.ListN.{length};
 ghost use Rattle.ground.specs.Rows.{over};
-ghost use Rattle.walk.specs.WalkBack.{linkAt, walkBack, walkedBack, outcome};
+ghost use Rattle.walk.specs.WalkBack.{linkAt, walkBack, walkBackAlone, outcome};
 ghost use Rattle.walk.specs.Inner.{walkedOf, Sure, linked};
 
 // The most candidates.
@@ -99,7 +99,7 @@ fn write(left: &[u16], mark: usize, count: usize, word: &mut [u16])
 pub fn walk_back(start: &[u16], end: &[u16], left: &[u16], n: u32, word: &mut [u16]) -> Answer
     ensures { λ r. ⌜
         outcome r (now (word .exit))
-        ≡ walkedBack (now (start .entry)) (now (end .entry)) (now (left .entry)) n (now (word .entry))
+        ≡ walkBackAlone (now (start .entry)) (now (end .entry)) (now (left .entry)) n (now (word .entry))
         ⌝ }
 {
     let n = n as usize;

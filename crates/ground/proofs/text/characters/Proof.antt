@@ -9,7 +9,8 @@ use lib.ListN.{length}
 use lib.IntN.{pos}
 use mathlib.Core.List.{List}
 use Rattle.ground.specs.Characters
-use Rattle.ground.specs.Characters.{checked, refuse, outcome, short, filledUnless}
+use Rattle.ground.specs.Answer.{refuse}
+use Rattle.ground.specs.Characters.{checked, outcome, short, filledUnless}
 use Rattle.ground.specs.Text.{letters}
 use Rattle.ground.specs.declared.answer.Answer.the-variants.{Done, ShortRow}
 use Rattle.ground.specs.declared.text.Checked.the-variants.{Passed, Refused}

@@ -19,7 +19,7 @@ use Rattle.lattice.specs.Lattice.{mark, taken, jointsOf, entriesTo}
 use Rattle.lattice.specs.Rows.{LatticeRows, rows, Filled}
 use Rattle.lattice.specs.Inner.{takenOf, inRow, Held, NearTaken, entered}
 use Rattle.lattice.specs.declared.relaxation.Taken.{Taken}
-use Rattle.lattice.proofs.SizeLaws.{Priced, sum-of}
+use Rattle.lattice.proofs.SizeLaws.{SmallOwn, sum-of}
 use Rattle.lattice.proofs.StepLaws.{row-taken, held, linkable, stepped-candidate, sized-next}
 use Rattle.lattice.proofs.forward.candidate.Statement.{statement}
 use Rattle.lattice.proofs.forward.candidate.Tie as tie
@@ -46,11 +46,11 @@ relax-row c = c .before .before .before .before .before
 abbrev relax-start : tie.After-relax → tie.Start
 relax-start c = row-start (relax-row c)
 
-abbrev price-relax : tie.After-price → tie.After-relax
-price-relax c = c .before .before .before
+abbrev own-relax : tie.After-own-cost → tie.After-relax
+own-relax c = c .before .before .before
 
-abbrev price-start : tie.After-price → tie.Start
-price-start c = relax-start (price-relax c)
+abbrev own-start : tie.After-own-cost → tie.Start
+own-start c = relax-start (own-relax c)
 
 read-requires : tie.Need-read-requires
 read-requires c κs =
@@ -110,53 +110,53 @@ found c =
     ∙ ap (λ (row : List ℤ). takenOf (taken (inRow row) es (mark (w .start)))) (row-is r)
     ∙ ap takenOf (row-taken (G s) w es)
 
-mul-price : tie.Need-mul-price
-mul-price c = let s = relax-start c in omega (arith, s .pre .0 .0, s .pre .0 .1 .few)
+mul-own-cost : tie.Need-mul-own-cost
+mul-own-cost c = let s = relax-start c in omega (arith, s .pre .0 .0, s .pre .0 .1 .few)
 
-shared-slice-copy-out-price : tie.Need-shared-slice-copy-out-price
-shared-slice-copy-out-price c = let s = relax-start c in omega (arith, s .pre .0 .0, s .pre .0 .1 .extras)
+shared-slice-copy-out-own-cost : tie.Need-shared-slice-copy-out-own-cost
+shared-slice-copy-out-own-cost c = let s = relax-start c in omega (arith, s .pre .0 .0, s .pre .0 .1 .extras)
 
-price-requires : tie.Need-price-requires
-price-requires c κs = search needs
+own-cost-requires : tie.Need-own-cost-requires
+own-cost-requires c κs = search needs
 
--- the price is candidate k's
-price-is : (c : tie.After-price) → let s = price-start c in toZ w32 (ofZ w32 (c .price .result)) ≡ candidate (G s) (s .args .k) .price
-price-is c =
-    let s = price-start c in
-    let r = relax-row (price-relax c) .before .before in
-    back w32 (c .price .result) (c .price .ok)
-    ∙ c .price .ensures .0
-    ∙ ap₂ _+ℤ_ (back w16 (getD (s .args .extra .now) (s .args .k) (pos 0)) (c .before .before .price-arg .given))
+-- extra and word cost are candidate k's
+own-is : (c : tie.After-own-cost) → let s = own-start c in toZ w32 (ofZ w32 (c .own-cost .result)) ≡ candidate (G s) (s .args .k) .ownCost
+own-is c =
+    let s = own-start c in
+    let r = relax-row (own-relax c) .before .before in
+    back w32 (c .own-cost .result) (c .own-cost .ok)
+    ∙ c .own-cost .ensures .0
+    ∙ ap₂ _+ℤ_ (back w16 (getD (s .args .extra .now) (s .args .k) (pos 0)) (c .before .before .own-cost-arg .given))
     (back w16 (r .read .result .cost) (c .before .struct-told .given .1 .0 .1) ∙ ap (λ (e : Entry). e .cost) (r .read .ensures))
 
-priced : (c : tie.After-price) → let s = price-start c in Priced (candidate (G s) (s .args .k) .price)
-priced c =
-    subst Priced (sym (back w32 (c .price .result) (c .price .ok)) ∙ price-is c)
-    (record { most = c .price .ensures .1; least = c .price .ensures .2 })
+small : (c : tie.After-own-cost) → let s = own-start c in SmallOwn (candidate (G s) (s .args .k) .ownCost)
+small c =
+    subst SmallOwn (sym (back w32 (c .own-cost .result) (c .own-cost .ok)) ∙ own-is c)
+    (record { most = c .own-cost .ensures .1; least = c .own-cost .ensures .2 })
 
 near : (c : tie.After-relax) → let s = relax-start c in
     NearTaken (candidate (G s) (s .args .k) .start) (takenOf (taken (jointsOf (G s)) (entriesTo (G s) (s .args .k)) (candidate (G s) (s .args .k))))
 near c = let s = relax-start c in subst (NearTaken (candidate (G s) (s .args .k) .start)) (found c) (c .relax .ensures .1)
 
 add-enter : tie.Need-add-enter
-add-enter c = let s = price-start c in omega (arith, s .pre .0 .0, s .pre .0 .1 .few)
+add-enter c = let s = own-start c in omega (arith, s .pre .0 .0, s .pre .0 .1 .few)
 
 cast-enter : tie.Need-cast-enter
-cast-enter c = let s = price-start c in omega (arith, s .pre .0 .0, s .pre .0 .1 .few)
+cast-enter c = let s = own-start c in omega (arith, s .pre .0 .0, s .pre .0 .1 .few)
 
 mul-enter : tie.Need-mul-enter
-mul-enter c = let s = price-start c in omega (arith, s .pre .0 .0, s .pre .0 .1 .few)
+mul-enter c = let s = own-start c in omega (arith, s .pre .0 .0, s .pre .0 .1 .few)
 
 shared-slice-read-enter : tie.Need-shared-slice-read-enter
-shared-slice-read-enter c = let s = price-start (c .before) in omega (arith, s .pre .0 .0, s .pre .0 .1 .ends)
+shared-slice-read-enter c = let s = own-start (c .before) in omega (arith, s .pre .0 .0, s .pre .0 .1 .ends)
 
 cast-enter-2 : tie.Need-cast-enter-2
-cast-enter-2 c = let s = price-start (c .before) in omega (arith, s .pre .0 .1 .inside (s .args .k) (s .pre .0 .0), s .pre .0 .1 .characters)
+cast-enter-2 c = let s = own-start (c .before) in omega (arith, s .pre .0 .1 .inside (s .args .k) (s .pre .0 .0), s .pre .0 .1 .characters)
 
 enter-requires : tie.Need-enter-requires
 enter-requires c κs =
     let q = c .before .before .before .before .before .before in
-    let s = price-start q in
+    let s = own-start q in
     let a = s .args in
     let ok = s .pre .0 .1 in
     let h = s .pre .0 .0 in
@@ -168,8 +168,8 @@ enter-requires c κs =
         inLeft = omega (arith, h, room .left);
         inCost = omega (arith, h, room .cost);
         fits =
-            rw (found (price-relax q), price-is q)
-            (sum-of (w .start) m (w .price) (near (price-relax q)) (priced q) (omega (arith, ok .forward (a .k) h, ok .inside (a .k) h, ok .characters)));
+            rw (found (own-relax q), own-is q)
+            (sum-of (w .start) m (w .ownCost) (near (own-relax q)) (small q) (omega (arith, ok .forward (a .k) h, ok .inside (a .k) h, ok .characters)));
       },
     )
 
@@ -189,26 +189,26 @@ same-length-5 : tie.Need-same-length-5
 same-length-5 c = search needs
 
 -- what was entered is candidate k's entry
-entered-is : (c : tie.After-price) → let s = price-start c in let w = candidate (G s) (s .args .k) in
-    entered (s .args .k + 1) (w .end) (price-relax c .relax .result) (toZ w32 (ofZ w32 (c .price .result))) (T s)
-    ≡ entered (suc (s .args .k)) (w .end) (takenOf (taken (jointsOf (G s)) (entriesTo (G s) (s .args .k)) w)) (w .price) (T s)
+entered-is : (c : tie.After-own-cost) → let s = own-start c in let w = candidate (G s) (s .args .k) in
+    entered (s .args .k + 1) (w .end) (own-relax c .relax .result) (toZ w32 (ofZ w32 (c .own-cost .result))) (T s)
+    ≡ entered (suc (s .args .k)) (w .end) (takenOf (taken (jointsOf (G s)) (entriesTo (G s) (s .args .k)) w)) (w .ownCost) (T s)
 entered-is c =
-    let s = price-start c in
+    let s = own-start c in
     let w = candidate (G s) (s .args .k) in
-    ap (λ (x : ℕ). entered x (w .end) (price-relax c .relax .result) (toZ w32 (ofZ w32 (c .price .result))) (T s)) (add-one (s .args .k))
-    ∙ ap₂ (λ (t : Taken) (z : ℤ). entered (suc (s .args .k)) (w .end) t z (T s)) (found (price-relax c)) (price-is c)
+    ap (λ (x : ℕ). entered x (w .end) (own-relax c .relax .result) (toZ w32 (ofZ w32 (c .own-cost .result))) (T s)) (add-one (s .args .k))
+    ∙ ap₂ (λ (t : Taken) (z : ℤ). entered (suc (s .args .k)) (w .end) t z (T s)) (found (own-relax c)) (own-is c)
 
 returns : tie.Need-returns
 returns c =
     let e = c .before .before .before .before .before .before .before .before .before in
     let q = e .before .before .before .before .before .before .before in
-    let s = price-start q in
+    let s = own-start q in
     let a = s .args in
     let ok = s .pre .0 .1 in
     let h = s .pre .0 .0 in (
       subst (Filled (a .n) (entriesTo (G s) (suc (a .k))) (T s)) (sym (e .enter .ensures ∙ entered-is q))
           (stepped-candidate (a .n) (G s) ok (a .k) (omega (arith, h)) (T s) (s .pre .1 .0) (s .pre .1 .1) (s .pre .0 .2) h),
-      sized-next (a .n) (G s) ok (a .k) h (s .pre .0 .2) (near (price-relax q)) (priced q),
+      sized-next (a .n) (G s) ok (a .k) h (s .pre .0 .2) (near (own-relax q)) (small q),
     )
 
 pub candidate-spec : {M : Type 1} → statement M
@@ -221,9 +221,9 @@ candidate-spec =
     mul-relax
     shared-slice-read-relax
     relax-requires
-    mul-price
-    shared-slice-copy-out-price
-    price-requires
+    mul-own-cost
+    shared-slice-copy-out-own-cost
+    own-cost-requires
     add-enter
     cast-enter
     mul-enter

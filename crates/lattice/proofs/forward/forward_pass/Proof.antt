@@ -6,8 +6,7 @@ use native.Mathlib.Omega.{arith}
 use lib.ListN.{length}
 use Rattle.lattice.specs.Words.{Given, given, count, candidatesTo, upFrom}
 use Rattle.lattice.specs.Lattice.{startMark, grow, entriesTo, lattice}
-use Rattle.lattice.specs.Rows.{LatticeRows, rows, Filled}
-use Rattle.lattice.specs.Inner.{Room}
+use Rattle.lattice.specs.Rows.{LatticeRows, rows, Filled, Room}
 use Rattle.lattice.proofs.LatticeLaws.{entries-length, lattice-length}
 use Rattle.lattice.proofs.FillLaws.{SameLengths, fill-fill, fill-held, fill-lengths, room-kept}
 use Rattle.lattice.proofs.forward.forward_pass.Statement.{statement}

@@ -120,8 +120,8 @@ sub-offer-of-2 c = in-told c .above
 offer-of-requires-2 : tie.Need-offer-of-requires-2 Inv-loop μ-loop
 offer-of-requires-2 c κs = let t = in-told c in (t .fits, t .offering)
 
-cheaper-requires : tie.Need-cheaper-requires Inv-loop μ-loop
-cheaper-requires c κs = tt
+cheaper-of-requires : tie.Need-cheaper-of-requires Inv-loop μ-loop
+cheaper-of-requires c κs = tt
 
 mul-following-2 : tie.Need-mul-following-2 Inv-loop μ-loop
 mul-following-2 c = omega (arith, in-told (c .before .before) .fits)
@@ -147,9 +147,9 @@ loop-again c =
       λ es h.
           let g = l .before .loop .inv .0 es h in
           let t = in-turn l es h in
-          rw (c .before .cheaper .ensures, c .before .before .offer-of2 .ensures .0 ∙ tells s es h (g .k) f t .is, h .follows f (t .inside))
+          rw (c .before .cheaper-of .ensures, c .before .before .offer-of2 .ensures .0 ∙ tells s es h (g .k) f t .is, h .follows f (t .inside))
           (again (inRow (s .args .row .now)) (mark (s .args .position)) es (l .before .loop .held) f g t),
-      rw (c .before .cheaper .ensures)
+      rw (c .before .cheaper-of .ensures)
           (near-against (s .args .position) (l .before .loop .held) (c .before .before .offer-of2 .result) (l .before .loop .inv .1) (c .before .before .offer-of2 .ensures .1)),
     )
 
@@ -175,7 +175,7 @@ least-from-spec =
     cast-at
     sub-offer-of-2
     offer-of-requires-2
-    cheaper-requires
+    cheaper-of-requires
     mul-following-2
     shared-slice-read-following-2
     loop-less

@@ -43,8 +43,8 @@ add-requires : tie.Need-add-requires
 add-requires c κs =
     let s = c .before .before .before .before .before .before .before .before in
     let t = c .before .before .taken .given in
-    rw (back w32 (t .0 .0 .cost) (c .struct-told .given .1 .0 .1), toZ-ofZ (s .fits .price))
-    (subst (λ (taken : Taken). SumFits taken (s .args .price)) (t .1) (s .pre .1 .fits))
+    rw (back w32 (t .0 .0 .cost) (c .struct-told .given .1 .0 .1), toZ-ofZ (s .fits .own-cost))
+    (subst (λ (taken : Taken). SumFits taken (s .args .own-cost)) (t .1) (s .pre .1 .fits))
 
 mul-sum : tie.Need-mul-sum
 mul-sum c = search needs
@@ -96,7 +96,7 @@ returns-2 c =
       back w32 (a .add .result) (a .add .ok),
       a .add .ensures,
       back w32 (t .0 .0 .cost) (a .before .struct-told .given .1 .0 .1),
-      toZ-ofZ (s .fits .price),
+      toZ-ofZ (s .fits .own-cost),
     )
 
 pub enter-spec : {M : Type 1} → statement M

@@ -11,20 +11,20 @@ use lib.IntN.{pos}
 use Rattle.ground.specs.Limits.{characterLimit, candidateLimit}
 use Rattle.ground.specs.Rows.{over}
 use Rattle.ground.specs.declared.answer.Answer.the-variants.{Done}
-use Rattle.walk.specs.WalkBack.{walkBack, written, walkedBack, outcome}
+use Rattle.walk.specs.WalkBack.{walkBack, written, walkBackAlone, outcome}
 use Rattle.walk.specs.Inner.{linked, Sure}
 use Rattle.walk.proofs.WalkLaws.{words-fit, walk-again, broken-found, whole-found}
 use Rattle.walk.proofs.walk_back.walk_back.Statement.{statement}
 use Rattle.walk.proofs.walk_back.walk_back.Tie as tie
 
 returns : tie.Need-returns
-unfolding walkedBack orElse
+unfolding walkBackAlone orElse
 returns c =
     let a = c .before .before .before .before .before .args in
     rw (lt-ltb characterLimit (a .n) (omega arith))
 
 returns-2 : tie.Need-returns-2
-unfolding walkedBack orElse
+unfolding walkBackAlone orElse
 returns-2 c =
     let a = c .before .before .before .before .before .before .args in
     rw (
@@ -33,7 +33,7 @@ returns-2 c =
     )
 
 returns-3 : tie.Need-returns-3
-unfolding walkedBack orElse
+unfolding walkBackAlone orElse
 returns-3 c =
     let a = c .before .before .before .before .before .before .before .args in
     rw (
@@ -46,7 +46,7 @@ add-if4 : tie.Need-add-if4
 add-if4 c = search needs
 
 returns-4 : tie.Need-returns-4
-unfolding walkedBack orElse
+unfolding walkBackAlone orElse
 returns-4 c =
     let a = c .before .before .before .before .before .before .before .before .args in
     rw (
@@ -57,7 +57,7 @@ returns-4 c =
     )
 
 returns-5 : tie.Need-returns-5
-unfolding walkedBack orElse
+unfolding walkBackAlone orElse
 returns-5 c =
     let a = c .before .before .before .before .before .before .before .before .before .args in
     rw (
@@ -77,8 +77,8 @@ walked c = let a = at-count c .args in walkBack (a .start .now) (a .end .now) (a
 -- once the tests are passed, the walk decides
 passed : (c : tie.After-count) (o : Option (List ℕ)) → walked c ≡ o
     → written o (at-count c .args .word .now)
-    ≡ walkedBack (at-count c .args .start .now) (at-count c .args .end .now) (at-count c .args .left .now) (at-count c .args .n) (at-count c .args .word .now)
-unfolding walkedBack orElse
+    ≡ walkBackAlone (at-count c .args .start .now) (at-count c .args .end .now) (at-count c .args .left .now) (at-count c .args .n) (at-count c .args .word .now)
+unfolding walkBackAlone orElse
 passed c o e =
     let a = at-count c .args in
     rw (

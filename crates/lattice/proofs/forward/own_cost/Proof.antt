@@ -8,8 +8,8 @@ use mir.Val.{SFits, toZ, ofZ}
 use mir.Facts.{toZ-ofZ}
 use Rattle.ground.proofs.SignedLaws.{back}
 use Rattle.lattice.proofs.SizeLaws.{sum-up, sum-down, sum-fits, up-mag, down-mag}
-use Rattle.lattice.proofs.forward.price.Statement.{statement}
-use Rattle.lattice.proofs.forward.price.Tie as tie
+use Rattle.lattice.proofs.forward.own_cost.Statement.{statement}
+use Rattle.lattice.proofs.forward.own_cost.Tie as tie
 
 widened-requires : tie.Need-widened-requires
 widened-requires c κs = search needs
@@ -38,5 +38,5 @@ returns c =
     back w32 (c .add .result) (c .add .ok) ∙ c .add .ensures ∙ ap₂ _+ℤ_ (extra-is (c .before .before)) (cost-is (c .before)) in
     (q, rw q (omega (arith, sum-up x y, up-mag x, up-mag y)), rw q (omega (arith, sum-down x y, down-mag x, down-mag y)))
 
-pub price-spec : {M : Type 1} → statement M
-price-spec = tie.close (tie.spec widened-requires widened-requires-2 add-requires returns)
+pub own-cost-spec : {M : Type 1} → statement M
+own-cost-spec = tie.close (tie.spec widened-requires widened-requires-2 add-requires returns)
