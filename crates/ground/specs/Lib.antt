@@ -8,7 +8,8 @@
 --   getD xs i d     the element of xs at i, counted from 0, or d where there is none
 --   record { .. }   a struct's value. declared.x.T is the type T of src/x.rt; «a_b» is a name with an underscore
 --   x ≡ y, P × Q    x is y; P and Q. `(k : ℕ) → P`: P for every k; `(j : ℕ) × P`: P for some j; `P → Q`: if P then Q; `P → ⊥`: not P; `P ↔ Q`:
---                   exactly if. A `record R x where` whose lines are such statements says that all of them hold
+--                   exactly if. A `record R x where` whose lines are such statements says that all of them hold; a `data D x where` holds by
+--                   one of its lines, and by nothing else
 --   λ x. e          the function that gives e for x; `map f xs`: f of each element; `let x = e in b`: b, where x is e
 --   +ℤ, ≤ℤ, ltZ     sum and order of whole numbers, and < as a test; negℤ z is −z
 -- In the contracts of src/, `now row` is a row's content, `.entry` before the call and `.exit` after it.

@@ -5,6 +5,9 @@ ghost use Prim.Native.Nat.{_+_, _*_, _≤_, _<_};
 ghost use lib.ListN.{length};
 ghost use Rattle.ground.specs.Entry.{entryOf, entryAt, entryPart, entryBytes, u16At, u32At, kindOf};
 
+// The most candidates.
+pub const CANDIDATE_LIMIT: usize = 16_384;
+
 // Document 01's entry type: a word's ten bytes, read. The lattice's constants belong to it too.
 pub struct Entry {
     pub id: u32,

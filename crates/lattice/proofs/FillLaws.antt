@@ -9,7 +9,7 @@ use native.Mathlib.Decide.{ℕ-discrete}
 use native.Mathlib.Nat.{zero-add}
 use lib.ListN.{length, getD, set, replicate, length-map, length-append}
 use lib.Seq.{set-append-left}
-use lib.IntN.{ℤ, pos, _+ℤ_}
+use lib.IntN.{pos}
 use lib.Dec.{eqb}
 use borrow.Author.Tests.{ne-eqb}
 use Rattle.ground.specs.Entry.{noneLink}
@@ -17,12 +17,12 @@ use Rattle.ground.specs.Rows.{over}
 use Rattle.ground.proofs.RowLaws.{over-length}
 use Rattle.lattice.specs.Words.{Word, upFrom}
 use Rattle.lattice.specs.Lattice.{LatticeEntry, startMark, endsAt, entryBy}
-use Rattle.lattice.specs.Rows.{linkOf, firstAt, lastAt, nextOf, firsts, lasts, lefts, costs, nextsFrom, nexts, LatticeRows, rows, Filled, Room}
+use Rattle.lattice.specs.Rows.{linkOf, firstAt, lastAt, firsts, lasts, lefts, costs, nextsFrom, nexts, LatticeRows, rows, Filled, Room}
 use Rattle.lattice.specs.Inner.{takenOf, linkedFirst, linkedLast, linkedNext, entered}
 use Rattle.lattice.specs.declared.relaxation.Offer.{Offer}
-use Rattle.lattice.proofs.LatticeLaws.{up-length, up-at, map-at}
+use Rattle.lattice.proofs.LatticeLaws.{up-length}
 use Rattle.lattice.proofs.OfferLaws.{ends-show}
-use Rattle.lattice.proofs.RowRules.{firsts-at, lasts-at}
+use Rattle.lattice.proofs.RowRules.{lasts-at}
 use Rattle.lattice.proofs.OverLaws.{over-at, over-set, over-snoc, over-over, table-same, table-set}
 use Rattle.lattice.proofs.LinkLaws.{first-snoc, last-snoc, first-past, last-past, last-listed, present, relinked, elsewhere, nexts-snoc}
 
@@ -311,3 +311,13 @@ room-kept n m a b room s =
       cost = rw (s .cost) (room .cost);
       next = rw (s .next) (room .next);
     }
+
+-- Two fillings of the same rows with the same entries are equal: the forward pass leaves one content of every row.
+pub filled-unique : (n : ℕ) (es : List LatticeEntry) (old a b : LatticeRows) → Filled n es old a → Filled n es old b → a ≡ b
+filled-unique n es old a b f g = λ i. record {
+  first = (f .first ∙ sym (g .first)) i;
+  last = (f .last ∙ sym (g .last)) i;
+  left = (f .left ∙ sym (g .left)) i;
+  cost = (f .cost ∙ sym (g .cost)) i;
+  next = (f .next ∙ sym (g .next)) i;
+}

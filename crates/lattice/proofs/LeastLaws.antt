@@ -1,9 +1,8 @@
 -- The least of a list by any fair test of what goes before what, and that the test of costs is fair. Assumes nothing.
-use mathlib.Core.Path.{_≡_, refl, sym, ap, _∙_}
+use mathlib.Core.Path.{_≡_, refl, sym, _∙_}
 use mathlib.Core.Bool.{Bool, true, false, cond}
 use mathlib.Core.List.{List, [], _∷_, List·Memᴰ, List·Memᴰ·head, List·Memᴰ·tail, List·Memᴰ·not-nil}
 use mathlib.Core.Option.{Option, none, some}
-use Rattle.lattice.specs.declared.relaxation.Offer.{Offer}
 use Rattle.lattice.specs.Lattice.{against, least, cheaper}
 use Rattle.lattice.proofs.OrderLaws.{ints}
 

@@ -1,16 +1,16 @@
 -- The first, the last and the next entries of a list, and of the list with one more at its end. Assumes nothing.
-use Prim.Native.Nat.{ℕ, zero, suc, _+_, _-_, _≤_, _<_}
+use Prim.Native.Nat.{ℕ, suc, _+_, _-_, _≤_, _<_}
 use mathlib.Core.Path.{_≡_, refl, sym, ap, _∙_}
 use mathlib.Core.Bool.{Bool, true, false, true≢false}
 use mathlib.Core.List.{List, [], _∷_, _++_}
 use mathlib.Core.Option.{Option, none, some, orElse, Option·some-injective, Option·some-ne-none, Option·none-ne-some}
 use native.Mathlib.Omega.{arith}
-use native.Mathlib.Nat.{add-zero, zero-add}
+use native.Mathlib.Nat.{add-zero}
 use native.Mathlib.Decide.{ℕ-discrete}
-use lib.ListN.{length, getD, set, drop}
+use lib.ListN.{length, set}
 use Rattle.ground.specs.Entry.{noneLink}
 use Rattle.lattice.specs.Lattice.{LatticeEntry, endsAt}
-use Rattle.lattice.specs.Rows.{onlyIf, linkOf, firstAt, lastAt, nextOf, nextsFrom, nexts}
+use Rattle.lattice.specs.Rows.{onlyIf, linkOf, firstAt, lastAt, nextOf, nextsFrom}
 use Rattle.lattice.proofs.OfferLaws.{ends-read, ends-show, ends-not}
 
 -- ---- one or another

@@ -13,8 +13,8 @@ use lib.ListN.{length, getD}
 use lib.IntN.{pos}
 use Rattle.lattice.specs.Words.{upFrom}
 use Rattle.lattice.specs.Lattice.{LatticeEntry, mark, unreached, entryNumbered, endsAt}
-use Rattle.lattice.specs.Rules.{Ends, Foremost, Chief, Lowest, Highest, Holds, RowRules}
-use Rattle.lattice.specs.Rows.{onlyIf, linkOf, firstAt, lastAt, firsts, lasts, lefts, costs, nextsFrom, nexts}
+use Rattle.lattice.specs.Rules.{Ends, Chief, Lowest, Highest, Holds, RowRules}
+use Rattle.lattice.specs.Rows.{onlyIf, linkOf, firstAt, lastAt, firsts, lasts, lefts, costs, nextsFrom}
 use Rattle.lattice.proofs.LatticeLaws.{up-length, up-at, map-at}
 use Rattle.lattice.proofs.OfferLaws.{ends-read, ends-show}
 

@@ -1,7 +1,8 @@
 -- The lattice keeps document 01's rules of the entries (specs/Rules.antt), over all entries and not only the earlier ones. Assumes nothing.
 use Prim.Native.Nat.{ℕ, zero, suc, _≤_, _<_}
 use mathlib.Core.Path.{_≡_, refl, sym, ap, _∙_}
-use mathlib.Core.Bool.{true, false, true≢false}
+use mathlib.Core.Logic.{_↔_, Iff·trans}
+use mathlib.Core.Bool.{Bool, true, false, true≢false}
 use mathlib.Core.List.{List, [], _∷_, _++_}
 use mathlib.Core.Option.{Option, none, some}
 use native.Mathlib.Omega.{arith}
@@ -153,6 +154,24 @@ placed : (joints : ℕ → ℕ → ℤ) (w : Word) (whole es rest : List Lattice
 placed joints w whole es rest i shape number quiet =
     rw (shape, ← number) (ruled joints w es rest (rw (shape, ← number) at quiet))
 
+-- ---- what the rules say of an entry without a left
+
+-- a test that is not true is false
+not-true : (b : Bool) → (b ≡ true → ⊥) → b ≡ false
+not-true true no-way = absurd (no-way refl)
+not-true false no-way = refl
+
+module _ (joints : ℕ → ℕ → ℤ) (es : List LatticeEntry) (w : Word) (i : ℕ) (keeps : Ruled joints es w i) where
+  -- it is unreached exactly if nothing can stand before it
+  unreached-by : (entryNumbered es i .reached ≡ false) ↔ (((j : ℕ) × Joins es w i j) → ⊥)
+  unreached-by =
+      (λ r j. true≢false (sym (keeps .reached .1 j) ∙ r), λ alone. not-true (entryNumbered es i .reached) (λ r. alone (keeps .reached .0 r)))
+
+  -- and exactly if its left is none, where none is no entry's number
+  left-by : length es ≤ noneLink → (entryNumbered es i .left ≡ noneLink) ↔ (entryNumbered es i .reached ≡ false)
+  left-by few =
+      (λ e. not-true (entryNumbered es i .reached) (λ r. omega (arith, keeps .left r .listed)), λ r. keeps .unreached r .0)
+
 -- ---- the lattice
 
 module _ (n : ℕ) (g : Given) where
@@ -214,3 +233,23 @@ module _ (n : ℕ) (g : Given) where
           each = λ k h. each k h (lattice-more g n (suc k) h);
           end = placed (jointsOf g) (mark n) L (entriesTo g c) [] (suc c) (lattice-end g n) (entries-length g c) (quiet-end n);
         }
+
+    -- none is no entry's number: there are c + 2 entries, at most 16,386
+    few-entries : length L ≤ noneLink
+    few-entries = rw lattice-length (omega (arith, passed .few))
+
+    -- an entry other than the start mark has left none exactly if it is unreached: the left of a reached one is an entry's number
+    pub left-none : (i : ℕ) → i < length (lattice n g) → 0 < i
+        → ((entryNumbered (lattice n g) i .left ≡ noneLink) ↔ (entryNumbered (lattice n g) i .reached ≡ false))
+    left-none zero h l = absurd (omega arith)
+    left-none (suc k) h l = go (decLt k c)
+      where
+        go : Dec (k < c) → (entryNumbered L (suc k) .left ≡ noneLink) ↔ (entryNumbered L (suc k) .reached ≡ false)
+        go (yes m) = left-by (jointsOf g) L (candidate g k) (suc k) (rules .each k m) few-entries
+        go (no m) = let q : k ≡ c = omega (arith, lattice-length g n) in rw q (left-by (jointsOf g) L (mark n) (suc c) (rules .end) few-entries)
+
+    -- the end mark has left none exactly if nothing reached ends at n
+    pub end-reached : (entryNumbered (lattice n g) (suc (count g)) .left ≡ noneLink)
+        ↔ (((j : ℕ) × Joins (lattice n g) (mark n) (suc (count g)) j) → ⊥)
+    end-reached =
+        Iff·trans (left-none (suc c) (omega (arith, lattice-length g n)) (omega arith)) (unreached-by (jointsOf g) L (mark n) (suc c) (rules .end))

@@ -8,8 +8,8 @@ use native.Mathlib.Decide.{decLt}
 use lib.ListN.{length, getD, length-append, List·getD-append}
 use lib.Seq.{getD-append-seam}
 use lib.IntN.{ℤ, pos, _+ℤ_}
-use Rattle.ground.specs.Entry.{entryAt, entryBytes, noneLink}
-use Rattle.ground.specs.Matrix.{matrixRow, valueIn}
+use Rattle.ground.specs.Entry.{noneLink}
+use Rattle.ground.specs.Matrix.{matrixRow}
 use Rattle.ground.specs.Charge.{charge}
 use Rattle.ground.proofs.EntryLaws.{entry-fits}
 use Rattle.ground.proofs.MatrixLaws.{joint-row, row-length}

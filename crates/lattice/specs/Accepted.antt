@@ -2,7 +2,7 @@
 -- The height is not read either: a left id below it means that its row lies within the matrix (`row-fits` in MatrixLaws).
 use Prim.Native.Nat.{ℕ, _+_, _*_, _≤_, _<_}
 use mathlib.Core.Path.{_≡_}
-use lib.ListN.{length, getD}
+use lib.ListN.{length}
 use Rattle.ground.specs.Limits.{characterLimit, candidateLimit}
 use Rattle.ground.specs.Entry.{entryBytes}
 use Rattle.ground.specs.Charge.{PricesFit}

@@ -15,7 +15,6 @@ use Rattle.ground.specs.Matrix.{valueIn}
 use Rattle.ground.specs.Charge.{charge, PricesFit}
 use Rattle.ground.specs.declared.charge.Mode.{Mode}
 use Rattle.lattice.specs.Size.{mostEach, leastEach}
-use Rattle.lattice.specs.Words.{Word}
 use Rattle.lattice.specs.Lattice.{LatticeEntry, entryNumbered, startMark}
 use Rattle.lattice.specs.Rows.{LatticeRows, rows, firstAt, nexts, linkOf}
 use Rattle.lattice.specs.declared.relaxation.Offer.{Offer}

@@ -8,11 +8,10 @@ ghost use Prim.Native.Nat.{suc, _<_};
 ghost use mathlib.Core.Bool.{cond};
 ghost use mathlib.Core.List.{List};
 ghost use mathlib.Core.Option.{some};
-ghost use lib.ListN.{length, getD};
+ghost use lib.ListN.{getD};
 ghost use lib.IntN.{pos};
 ghost use Rattle.ground.specs.Entry.{noneLink};
 ghost use Rattle.lattice.specs.Lattice.{LatticeEntry, mark, cheaper, against, taken};
-ghost use Rattle.lattice.specs.Rows.{firstAt, linkOf};
 ghost use Rattle.lattice.specs.Inner.{takenOf, inRow, chargeTo, Chargeable, offerOf, Offering, Near, NearTaken, Held};
 
 // What it costs a word to come from an entry, and the entry's number.

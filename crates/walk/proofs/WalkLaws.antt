@@ -1,6 +1,7 @@
--- The walk back: what a right link leads to, that the bound on the links never ends a walk, and what the walk finds. Assumes nothing.
+-- The walk back: what a right link leads to, that the bound on the links never ends a walk, what the walk finds, and exactly when it finds nothing. Assumes nothing.
 use Prim.Native.Nat.{ℕ, zero, suc, _+_, _-_, _≤_, _<_}
 use mathlib.Core.Path.{_≡_, refl, ap, _∙_, sym, subst}
+use mathlib.Core.Logic.{_↔_, _⊎_, inl, inr, ⊎-elim}
 use mathlib.Core.Bool.{Bool, true, false, cond, _&&_, _||_}
 use mathlib.Core.List.{List, [], _∷_}
 use mathlib.Core.Option.{Option, none, some, orElse}
@@ -15,6 +16,7 @@ use Rattle.ground.specs.declared.answer.Answer.{Answer}
 use Rattle.ground.specs.declared.answer.Answer.the-variants.{Done, ShortRow, BrokenLink}
 use Rattle.ground.proofs.RowLaws.{over-length}
 use Rattle.walk.specs.WalkBack.{endsThere, linkAt, follow, walkFrom, walkBack, Outcome, outcome, walkRefused, writtenUnless, walkBackAlone}
+use Rattle.walk.specs.WalkBack.{Follows, starts, goes-on, FollowedLink}
 use Rattle.walk.specs.Inner.{walkedOf, linked, Sure}
 use Rattle.walk.specs.declared.walk_back.Link.{Link}
 use Rattle.walk.specs.declared.walk_back.Link.the-variants.{ToStart, ToCandidate, Broken}
@@ -219,6 +221,56 @@ module _ (start end left : List ℕ) where
   -- the candidates found lead from 0 to n, each from where the one before ends
   pub found-joined : (n : ℕ) (found : List ℕ) → walkBack start end left n ≡ some found → Joined start end 0 found n
   found-joined n found e = walk-joined (walk-of n found e) none-left
+
+  -- ---- what a walk follows
+  module _ (n : ℕ) where
+    -- from a place that it comes to, with links enough, the walk finds what the whole walk does
+    same-walk : {position number : ℕ} → Follows start end left n position number
+        → ((found : List ℕ) × (walkFrom start end left (suc position) position number found ≡ walkBack start end left n))
+    unfolding walkBack
+    same-walk starts = ([], refl)
+    same-walk (goes-on {position} {number} {k} f l) = let (found, e) = same-walk f in (k ∷ found, next position number k found l ∙ e)
+
+    -- so where a followed link is broken there is nothing
+    broken : FollowedLink start end left n Broken → walkBack start end left n ≡ none
+    broken (position, number, f, l) = let (found, e) = same-walk f in sym e ∙ step position position number found Broken l
+
+    -- and where one is to the start mark, a list is found
+    whole : FollowedLink start end left n ToStart → ((found : List ℕ) × (walkBack start end left n ≡ some found))
+    whole (position, number, f, l) = let (found, e) = same-walk f in (found, sym e ∙ step position position number found ToStart l)
+
+    -- one of the two is followed, for each right link to a candidate leads to a lower position
+    one-from : (most position number : ℕ) → position < most → Follows start end left n position number
+        → FollowedLink start end left n Broken ⊎ FollowedLink start end left n ToStart
+    one-from zero position number h f = absurd (omega arith)
+    one-from (suc most) position number h f =
+        go (linkAt start end position (getD left number noneLink)) refl (λ k. one-from most (getD start k 0) (suc k))
+      where
+        go : (link : Link) → linkAt start end position (getD left number noneLink) ≡ link
+            → ((k : ℕ) → getD start k 0 < most → Follows start end left n (getD start k 0) (suc k)
+            → FollowedLink start end left n Broken ⊎ FollowedLink start end left n ToStart)
+            → FollowedLink start end left n Broken ⊎ FollowedLink start end left n ToStart
+        go ToStart l again = inr (position, number, f, l)
+        go (ToCandidate k) l again =
+            let r = right start end position (getD left number noneLink) k l in
+            again k (omega arith) (goes-on f l)
+        go Broken l again = inl (position, number, f, l)
+
+    -- so one of them is, from entry c + 1 on
+    one-of : FollowedLink start end left n Broken ⊎ FollowedLink start end left n ToStart
+    one-of = one-from (suc n) n (suc (length start)) (omega arith) starts
+
+    -- nothing is no list
+    not-both : (found : List ℕ) → walkBack start end left n ≡ none → walkBack start end left n ≡ some found → ⊥
+    not-both found e f = let z : _≡_ {A = ℕ} 0 1 = cc in omega arith
+
+    -- The walk finds nothing exactly if a followed link is broken; so the bound never runs out.
+    pub broken-exactly : (walkBack start end left n ≡ none) ↔ FollowedLink start end left n Broken
+    broken-exactly = (λ e. ⊎-elim (λ b. b) (λ w. let (found, f) = whole w in absurd (not-both found e f)) one-of, broken)
+
+    -- It finds a list exactly if a followed link is a right one to the start mark.
+    pub whole-exactly : ((found : List ℕ) × (walkBack start end left n ≡ some found)) ↔ FollowedLink start end left n ToStart
+    whole-exactly = (λ (found, e). ⊎-elim (λ b. absurd (not-both found (broken b) e)) (λ w. w) one-of, whole)
 
 -- ---- the public operation
 

@@ -1,5 +1,6 @@
 -- Document 01, "The lattice", last paragraph, and the public operation "walk back alone": its tests in document 01's order, and its whole effect.
 use Prim.Native.Nat.{ℕ, zero, suc, _+_}
+use mathlib.Core.Path.{_≡_}
 use mathlib.Core.Bool.{Bool, cond, not, _&&_, _||_}
 use mathlib.Core.List.{List, [], _∷_}
 use mathlib.Core.Option.{Option, none, some, orElse}
@@ -82,3 +83,19 @@ unfoldable pub walkBackAlone : List ℕ → List ℕ → List ℕ → ℕ → Li
 unfolding walkBack
 walkBackAlone start end left n word =
     writtenUnless (walkRefused start end left n word) (walkBack start end left n) word
+
+-- ---- what a walk follows
+
+-- The walk back comes, by right links to candidates alone, to the entry of a number at a position: by these two lines and no others.
+pub data Follows (start end left : List ℕ) (n : ℕ) : ℕ → ℕ → Type 0 where
+  -- it starts at entry c + 1 with position n
+  starts : Follows start end left n n (suc (length start))
+  -- a right link to candidate k leads to that candidate, whose start is the next position
+  goes-on : {position number k : ℕ} → Follows start end left n position number
+      → linkAt start end position (getD left number noneLink) ≡ ToCandidate k
+      → Follows start end left n (getD start k 0) (suc k)
+
+-- A followed link is such: that of an entry which the walk comes to, at the position there.
+abbrev pub FollowedLink : List ℕ → List ℕ → List ℕ → ℕ → Link → Type 0
+FollowedLink start end left n link =
+    (position : ℕ) × (number : ℕ) × Follows start end left n position number × (linkAt start end position (getD left number noneLink) ≡ link)

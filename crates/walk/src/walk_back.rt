@@ -1,5 +1,6 @@
 // The walk back (document 01, piece 7; `tokens_offset_into`): once over the links to test and count them, and once more to write.
 use ground::answer::Answer;
+use ground::entry::CANDIDATE_LIMIT;
 use ground::entry::Entry;
 use ground::text::CHARACTER_LIMIT;
 ghost use mathlib.Core.Path.{_≡_};
@@ -9,9 +10,6 @@ ghost use lib.ListN.{length};
 ghost use Rattle.ground.specs.Rows.{over};
 ghost use Rattle.walk.specs.WalkBack.{linkAt, walkBack, walkBackAlone, outcome};
 ghost use Rattle.walk.specs.Inner.{walkedOf, Sure, linked};
-
-// The most candidates.
-pub const CANDIDATE_LIMIT: usize = 16_384;
 
 // What a link says at a position.
 pub enum Link {

@@ -1,6 +1,6 @@
 -- The rows hold the entries so far, so the relaxation finds the offer that candidate k takes, and `enter` adds its entry. Assumes nothing.
 use borrow.Author.Needs.{needs}
-use Prim.Native.Nat.{ℕ, suc, _+_, _*_, _≤_, _<_}
+use Prim.Native.Nat.{ℕ, suc, _+_}
 use mathlib.Core.Path.{_≡_, sym, ap, ap₂, _∙_, subst}
 use mathlib.Core.List.{List}
 use native.Mathlib.Omega.{arith}
@@ -9,7 +9,6 @@ use lib.ListN.{length, getD}
 use lib.IntN.{ℤ, pos, _+ℤ_}
 use mir.Syntax.{w16, w32}
 use mir.Val.{toZ, ofZ}
-use Rattle.ground.specs.Entry.{entryAt}
 use Rattle.ground.specs.Matrix.{matrixRow}
 use Rattle.ground.specs.declared.entry.Entry.{Entry}
 use Rattle.ground.proofs.EntryLaws.{entry-fits}

@@ -1,14 +1,12 @@
 -- The rows hold the entries of all candidates, so the relaxation at n finds the offer that the end mark takes. Assumes nothing.
 use borrow.Author.Needs.{needs}
-use Prim.Native.Nat.{ℕ, suc, _+_}
+use Prim.Native.Nat.{ℕ}
 use mathlib.Core.Path.{_≡_, refl, sym, ap, ap₂, _∙_, subst}
 use mathlib.Core.List.{List}
 use native.Mathlib.Omega.{arith}
 use native.Mathlib.Numerals.{add-one}
-use lib.ListN.{length}
 use lib.IntN.{ℤ, pos}
 use Rattle.ground.specs.Entry.{markId}
-use Rattle.ground.specs.Matrix.{matrixRow}
 use Rattle.lattice.specs.Words.{Given, given, count}
 use Rattle.lattice.specs.Lattice.{LatticeEntry, mark, taken, jointsOf, entriesTo, lattice}
 use Rattle.lattice.specs.Rows.{LatticeRows, rows, Filled}

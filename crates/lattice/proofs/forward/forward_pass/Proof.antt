@@ -3,7 +3,6 @@ use borrow.Author.Needs.{needs}
 use Prim.Native.Nat.{ℕ, _+_, _≤_}
 use mathlib.Core.List.{[], _∷_}
 use native.Mathlib.Omega.{arith}
-use lib.ListN.{length}
 use Rattle.lattice.specs.Words.{Given, given, count, candidatesTo, upFrom}
 use Rattle.lattice.specs.Lattice.{startMark, grow, entriesTo, lattice}
 use Rattle.lattice.specs.Rows.{LatticeRows, rows, Filled, Room}

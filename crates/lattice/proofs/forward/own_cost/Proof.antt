@@ -4,7 +4,7 @@ use mathlib.Core.Path.{_≡_, _∙_, ap₂}
 use native.Mathlib.Omega.{arith}
 use lib.IntN.{_+ℤ_}
 use mir.Syntax.{w32}
-use mir.Val.{SFits, toZ, ofZ}
+use mir.Val.{toZ, ofZ}
 use mir.Facts.{toZ-ofZ}
 use Rattle.ground.proofs.SignedLaws.{back}
 use Rattle.lattice.proofs.SizeLaws.{sum-up, sum-down, sum-fits, up-mag, down-mag}

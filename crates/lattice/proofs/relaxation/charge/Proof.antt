@@ -1,6 +1,6 @@
 -- In each arm the mode is the arm's case; Normal charges nothing. Assumes nothing.
 use borrow.Author.Needs.{needs}
-use mathlib.Core.Path.{_∙_, subst, sym}
+use mathlib.Core.Path.{_∙_, subst}
 use mir.Syntax.{w32}
 use Rattle.ground.specs.Charge.{PricesFit}
 use Rattle.ground.proofs.SignedLaws.{back}
