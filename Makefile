@@ -3,16 +3,22 @@ SHELL := /bin/sh
 .SHELLFLAGS := -euc
 .PHONY: test lib bench
 
-LIB := target/staticlib/libjumelavorp.a
 C_PROGRAMS := characters walk_back
-CFLAGS := -std=c11 -Wall -Wextra -Werror -pedantic -O2 -Iinclude
+MACHINE := $(shell uname -m)
+
+# The library is x86-64 code, and the kit has no Rust to build the harness for it on another machine.
+ifeq ($(MACHINE),x86_64)
+RUST_TESTS := cd harness && cargo test --offline --locked
+else
+RUST_TESTS := @echo 'harness: not run, the library is x86-64 code and this machine is $(MACHINE)'
+endif
 
 # Each line stops the run where it fails. rt ci comes last: it proves every crate from nothing,
 # tries the must-fail edits, and its last line is 'N passed, 0 failed'.
 test: lib
 	rt fmt --check
-	for name in $(C_PROGRAMS); do $(CC) $(CFLAGS) harness/c/$$name.c $(LIB) -o target/c-$$name; ./target/c-$$name; done
-	cd harness && cargo test --offline --locked
+	for name in $(C_PROGRAMS); do harness/c/run $$name; done
+	$(RUST_TESTS)
 	rt ci
 
 # Only a proved crate is built.

@@ -20,12 +20,13 @@ abbrev pub linkOf : Option ℕ → ℕ
 linkOf none = noneLink
 linkOf (some i) = i
 
--- The lowest and the highest reached entry that ends at a position, of entries numbered from i on.
+-- The lowest reached entry that ends at a position, of entries numbered from i on.
 unfoldable pub firstAt : ℕ → ℕ → List LatticeEntry → Option ℕ
 unfolding orElse
 firstAt position i [] = none
 firstAt position i (e ∷ es) = orElse (onlyIf (endsAt position e) i) (firstAt position (suc i) es)
 
+-- The highest one.
 unfoldable pub lastAt : ℕ → ℕ → List LatticeEntry → Option ℕ
 unfolding orElse
 lastAt position i [] = none
@@ -35,27 +36,33 @@ lastAt position i (e ∷ es) = orElse (lastAt position (suc i) es) (onlyIf (ends
 abbrev pub nextOf : Bool → Option ℕ → Option ℕ
 nextOf reached higher = cond reached higher none
 
--- ---- the rows, as lists: of the positions 0 to n, and of the entries
+-- ---- the rows, as lists
 
+-- First of the positions 0 to n.
 unfoldable pub firsts : ℕ → List LatticeEntry → List ℕ
 unfolding firstAt upFrom
 firsts n es = map (λ (position : ℕ). linkOf (firstAt position 0 es)) (upFrom 0 (suc n))
 
+-- Last of the positions 0 to n.
 unfoldable pub lasts : ℕ → List LatticeEntry → List ℕ
 unfolding lastAt upFrom
 lasts n es = map (λ (position : ℕ). linkOf (lastAt position 0 es)) (upFrom 0 (suc n))
 
+-- Left of each entry.
 unfoldable pub lefts : List LatticeEntry → List ℕ
 lefts es = map (λ (e : LatticeEntry). e .left) es
 
+-- Cost of each entry.
 unfoldable pub costs : List LatticeEntry → List ℤ
 costs es = map (λ (e : LatticeEntry). e .cost) es
 
+-- Next of each entry, of entries numbered from i on.
 unfoldable pub nextsFrom : ℕ → List LatticeEntry → List ℕ
 unfolding firstAt
 nextsFrom i [] = []
 nextsFrom i (e ∷ es) = linkOf (nextOf (e .reached) (firstAt (e .word .end) (suc i) es)) ∷ nextsFrom (suc i) es
 
+-- Next of each entry.
 abbrev pub nexts : List LatticeEntry → List ℕ
 nexts es = nextsFrom 0 es
 

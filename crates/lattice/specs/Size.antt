@@ -16,13 +16,15 @@ mostEach = 131068
 abbrev pub leastEach : ℕ
 leastEach = 98304
 
--- The range of every stored cost: all characters, and the joint to the end mark. −402,685,952 and 536,887,295.
+-- The least that a stored cost can be, of all characters and the joint to the end mark: −402,685,952.
 abbrev pub leastCost : ℤ
 leastCost = negℤ (pos (characterLimit * leastEach + 32768))
 
+-- The most: 536,887,295.
 abbrev pub mostCost : ℤ
 mostCost = pos (characterLimit * mostEach + 32767)
 
+-- A cost lies in document 01's range.
 pub record InRange (cost : ℤ) : Type 0 where
   pub least : leastCost ≤ℤ cost
   pub most : cost ≤ℤ mostCost

@@ -56,10 +56,11 @@ unfoldable pub upFrom : ℕ → ℕ → List ℕ
 upFrom from zero = []
 upFrom from (suc many) = from ∷ upFrom (suc from) many
 
--- The first k candidates, and all of them.
+-- The first k candidates.
 unfoldable pub candidatesTo : Given → ℕ → List Word
 unfolding upFrom
 candidatesTo g k = map (candidate g) (upFrom 0 k)
 
+-- All candidates.
 abbrev pub candidates : Given → List Word
 candidates g = candidatesTo g (count g)
