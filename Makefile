@@ -9,8 +9,10 @@ MACHINE := $(shell uname -m)
 # The library is x86-64 code, and the kit has no Rust to build the harness for it on another machine.
 ifeq ($(MACHINE),x86_64)
 RUST_TESTS := cd harness && cargo test --offline --locked
+RUST_BENCH := cd harness && cargo run --offline --locked --release --bin bench
 else
 RUST_TESTS := @echo 'harness: not run, the library is x86-64 code and this machine is $(MACHINE)'
+RUST_BENCH := @echo 'bench: cannot be run, the library is x86-64 code and this machine is $(MACHINE)' && false
 endif
 
 # Each line stops the run where it fails. rt ci comes last: it proves every crate from nothing,
@@ -26,4 +28,4 @@ lib:
 	rt staticlib jumelavorp
 
 bench: lib
-	cd harness && cargo run --offline --locked --release --bin bench
+	$(RUST_BENCH)

@@ -1,5 +1,5 @@
 /* Calls the walk back from C on document 01's examples; stops at the first difference. */
-#include "jumelavorp.h"
+#include "answer.h"
 
 #include <stdio.h>
 #include <string.h>
@@ -52,10 +52,7 @@ static int differs(const example *e)
     }
     jumelavorp_answer a = jumelavorp_walk_back(given.start, given.start_len, given.end, given.end_len,
                                                given.left, given.left_len, given.n, word, given.places);
-    if (a.number != e->answer.number || a.place != e->answer.place ||
-        a.count != e->answer.count || a.cost != e->answer.cost) {
-        printf("%s: answer %lu, place %lu, count %lu, cost %ld\n", e->name,
-               (unsigned long)a.number, (unsigned long)a.place, (unsigned long)a.count, (long)a.cost);
+    if (answer_differs(e->name, a, e->answer)) {
         return 1;
     }
     for (size_t i = 0; i < PLACES; i++) {

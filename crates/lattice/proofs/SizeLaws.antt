@@ -69,7 +69,7 @@ pub near-joint : (position : ℕ) (joint : ℤ) → mag joint < 2 ^ 15 → Near 
 near-joint position joint small = record { most = omega (arith, up-mag joint); least = omega (arith, down-mag joint) }
 
 -- Document 01's range, by the two distances.
-pub in-range : (z : ℤ) → up z ≤ 536887295 → down z ≤ 402685952 → InRange z
+pub in-range : (z : ℤ) → up z ≤ characterLimit * mostEach + 32767 → down z ≤ characterLimit * leastEach + 32768 → InRange z
 in-range z h l = record { least = le-show leastCost z (omega arith); most = le-show z mostCost (omega arith) }
 
 -- An extra and a word cost, by their distances from zero.
