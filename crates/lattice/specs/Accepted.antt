@@ -1,4 +1,5 @@
 -- What the forward pass asks of what it reads: what document 01's tests 2 to 6 and 9 to 11 leave. Test 7 is `Room` (in Rows); kinds are not read.
+-- The number beside a line is its test's.
 -- The height is not read either: a left id below it means that its row lies within the matrix (`row-fits` in MatrixLaws).
 use Prim.Native.Nat.{ℕ, _+_, _*_, _≤_, _<_}
 use mathlib.Core.Path.{_≡_}

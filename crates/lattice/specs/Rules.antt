@@ -56,7 +56,8 @@ pub record Ends (es : List LatticeEntry) (position i : ℕ) : Type 0 where
   pub reached : entryNumbered es i .reached ≡ true
   pub end : entryNumbered es i .word .end ≡ position
 
--- Of the entries from number `from` on that do so, i is the one that stands in an order to all of them.
+-- Of the entries from number `from` on that do so, i is the one that stands in an order to all of them: with i ≤ j the lowest, with j ≤ i the
+-- highest.
 pub record Foremost (order : ℕ → ℕ → Type 0) (es : List LatticeEntry) (position from i : ℕ) : Type 0 where
   pub listed : from ≤ i
   pub ends : Ends es position i
