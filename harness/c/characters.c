@@ -1,7 +1,6 @@
 /* Calls the library from C on document 01's examples; stops at the first difference. */
-#include "answer.h"
+#include "examples.h"
 
-#include <stdio.h>
 #include <string.h>
 
 enum { PLACES = 8, KEPT = 999 };
@@ -27,8 +26,9 @@ static const example examples[] = {
     {"L, the last character", "\xF4\x8F\xBF\xBF", 4, 6, {0, 0, 1, 0}, {0, 4}, {0, 0}, 2},
 };
 
-static int differs(const example *e)
+static int differs(size_t number)
 {
+    const example *e = &examples[number];
     uint8_t text[16] = {0};
     uint32_t offset[PLACES];
     uint16_t run[PLACES];
@@ -56,12 +56,5 @@ static int differs(const example *e)
 
 int main(void)
 {
-    size_t count = sizeof examples / sizeof examples[0];
-    for (size_t i = 0; i < count; i++) {
-        if (differs(&examples[i])) {
-            return 1;
-        }
-    }
-    printf("characters: %lu examples hold from C\n", (unsigned long)count);
-    return 0;
+    return try_all("characters", sizeof examples / sizeof examples[0], differs);
 }

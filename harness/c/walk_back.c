@@ -1,7 +1,6 @@
 /* Calls the walk back from C on document 01's examples; stops at the first difference. */
-#include "answer.h"
+#include "examples.h"
 
-#include <stdio.h>
 #include <string.h>
 
 enum { CANDIDATES = 5, PLACES = 8, KEPT = 999, NONE = 65535 };
@@ -42,8 +41,9 @@ static const example examples[] = {
     {"B, the word row short", B_START, B_END, B_LEFT, 3, 2, {7, 0, 0, 0}, {0}},
 };
 
-static int differs(const example *e)
+static int differs(size_t number)
 {
+    const example *e = &examples[number];
     example given = *e;
     uint16_t word[PLACES];
 
@@ -73,12 +73,5 @@ static int differs(const example *e)
 
 int main(void)
 {
-    size_t count = sizeof examples / sizeof examples[0];
-    for (size_t i = 0; i < count; i++) {
-        if (differs(&examples[i])) {
-            return 1;
-        }
-    }
-    printf("walk back: %lu examples hold from C\n", (unsigned long)count);
-    return 0;
+    return try_all("walk back", sizeof examples / sizeof examples[0], differs);
 }

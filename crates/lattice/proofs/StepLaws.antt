@@ -29,16 +29,19 @@ use Rattle.lattice.proofs.LinkLaws.{last-listed}
 use Rattle.lattice.proofs.SizeLaws.{sum-up, sum-down, in-range, SmallOwn, sized-entry}
 
 -- ---- a row of the matrix offers what the matrix does
-module _ (g : Given) (w : Word) where
-  abbrev row : List ℤ
-  row = matrixRow (g .matrix) (g .width) (w .leftId)
 
+-- A row is a word's row of the matrix.
+abbrev pub RowOf : Given → Word → List ℤ → Type 0
+RowOf g w row = row ≡ matrixRow (g .matrix) (g .width) (w .leftId)
+
+module _ (g : Given) (w : Word) (row : List ℤ) (is : RowOf g w row) where
   row-offers : (i : ℕ) (es : List LatticeEntry) → offers (inRow row) (mark (w .start)) i es ≡ offers (jointsOf g) w i es
   unfolding offers
   row-offers i [] = refl
-  row-offers i (e ∷ es) = rw (row-offers (suc i) es, joint-row (g .matrix) (g .width) (w .leftId) (e .word .rightId))
+  row-offers i (e ∷ es) = rw (row-offers (suc i) es, is, joint-row (g .matrix) (g .width) (w .leftId) (e .word .rightId))
 
-  pub row-taken : (es : List LatticeEntry) → taken (inRow row) es (mark (w .start)) ≡ taken (jointsOf g) es w
+  -- so what is taken by the row is what the word takes
+  pub row-taken : (es : List LatticeEntry) → takenOf (taken (inRow row) es (mark (w .start))) ≡ takenOf (taken (jointsOf g) es w)
   row-taken es = rw (row-offers 0 es)
 
 -- ---- the rows hold the entries so far
@@ -56,15 +59,19 @@ module _ (n : ℕ) (g : Given) (ok : Accepted n g) (k : ℕ) (most : k ≤ count
   cost-is : (i : ℕ) → i < length es → entryNumbered es i .cost ≡ getD (t .cost) i (pos 0)
   cost-is i h = sym (held-at (costs es) (t .cost) i (pos 0) (f .cost) (omega (arith, costs-length es)) ∙ costs-at es i h)
 
-  module _ (position : ℕ) (inside : position ≤ n) (l : ℕ) (fits : l * g .width + g .width ≤ length (g .matrix)) where
-    abbrev at : List ℤ
-    at = matrixRow (g .matrix) (g .width) l
+  -- ---- and so the relaxation of a word by its row can read them
+  module _ (w : Word) (inside : w .start ≤ n) (row : List ℤ) (is : RowOf g w row) (fits : w .leftId * g .width + g .width ≤ length (g .matrix)) where
+    abbrev position : ℕ
+    position = w .start
+
+    row-wide : length row ≡ g .width
+    row-wide = ap length is ∙ row-length (g .matrix) (g .width) (w .leftId) fits
 
     charge-is : (j : ℕ) → candidate g j .end ≡ position → candidate g j .charged ≡ chargeTo (g .start) (g .run) (g .mode) position j
     charge-is j e = rw e
 
     -- what candidate j offers, if it ends at the position, can be read
-    offering : (j : ℕ) → suc j < length es → candidate g j .end ≡ position → Offering at (g .start) (g .entry) (g .run) (g .mode) (t .cost) position j
+    offering : (j : ℕ) → suc j < length es → candidate g j .end ≡ position → Offering row (g .start) (g .entry) (g .run) (g .mode) (t .cost) position j
     offering j h e =
         let i = listed j h in
         let forward = ok .forward j i in
@@ -78,18 +85,18 @@ module _ (n : ℕ) (g : Given) (ok : Accepted n g) (k : ℕ) (most : k ≤ count
                 inRun = omega (arith, forward, ok .runs);
               };
           bytes = entry-fits (g .entry) (count g) j (ok .entries) i;
-          joined = rw (row-length (g .matrix) (g .width) l fits) (ok .rightIds j i);
+          joined = rw row-wide (ok .rightIds j i);
           costed = omega (arith, held-room (costs es) (t .cost) (f .cost), costs-length es);
           within = omega (arith, ok .characters);
           most = rw (← cost-is (suc j) h, ← charge-is j e, ← e) (rw (word-is j h) at (s .most));
           least = rw (← cost-is (suc j) h, ← e) (rw (word-is j h) at (s .least));
         }
 
-    pub held : Held position es at (g .start) (g .entry) (g .run) (g .mode) (t .first) (t .cost) (t .next)
+    pub held : Held position es row (g .start) (g .entry) (g .run) (g .mode) (t .first) (t .cost) (t .next)
     held =
         record {
           few = omega (arith, entries-length g k, ok .few);
-          marked = rw (row-length (g .matrix) (g .width) l fits) (ok .wide);
+          marked = rw row-wide (ok .wide);
           begins = entries-start g k;
           away = λ j h. rw (word-is j h) (omega (arith, ok .forward j (listed j h)));
           inFirst = omega (arith, room .first);

@@ -2,7 +2,6 @@
 use borrow.Author.Needs.{needs}
 use Prim.Native.Nat.{ℕ, suc, _+_}
 use mathlib.Core.Path.{_≡_, sym, ap, ap₂, _∙_, subst}
-use mathlib.Core.List.{List}
 use native.Mathlib.Omega.{arith}
 use native.Mathlib.Numerals.{add-one}
 use lib.ListN.{length, getD}
@@ -14,12 +13,12 @@ use Rattle.ground.specs.declared.entry.Entry.{Entry}
 use Rattle.ground.proofs.EntryLaws.{entry-fits}
 use Rattle.ground.proofs.SignedLaws.{back}
 use Rattle.lattice.specs.Words.{Given, given, candidate}
-use Rattle.lattice.specs.Lattice.{mark, taken, jointsOf, entriesTo}
+use Rattle.lattice.specs.Lattice.{taken, jointsOf, entriesTo}
 use Rattle.lattice.specs.Rows.{LatticeRows, rows, Filled}
-use Rattle.lattice.specs.Inner.{takenOf, inRow, Held, NearTaken, entered}
+use Rattle.lattice.specs.Inner.{takenOf, Held, NearTaken, entered}
 use Rattle.lattice.specs.declared.relaxation.Taken.{Taken}
 use Rattle.lattice.proofs.SizeLaws.{SmallOwn, sum-of}
-use Rattle.lattice.proofs.StepLaws.{row-taken, held, linkable, stepped-candidate, sized-next}
+use Rattle.lattice.proofs.StepLaws.{RowOf, row-taken, held, linkable, stepped-candidate, sized-next}
 use Rattle.lattice.proofs.forward.candidate.Statement.{statement}
 use Rattle.lattice.proofs.forward.candidate.Tie as tie
 
@@ -68,8 +67,7 @@ row-requires c κs =
     let s = read-start (c .before) in
     rw (left-id-is (c .before)) (s .pre .0 .1 .leftIds (s .args .k) (s .pre .0 .0))
 
-row-is : (c : tie.After-row) → let s = row-start c in
-    c .row .result .now ≡ matrixRow (s .args .matrix .now) (s .args .width) (candidate (G s) (s .args .k) .leftId)
+row-is : (c : tie.After-row) → let s = row-start c in RowOf (G s) (candidate (G s) (s .args .k)) (c .row .result .now)
 row-is c =
     let a = row-start c .args in
     c .row .ensures ∙ ap (λ (l : ℕ). matrixRow (a .matrix .now) (a .width) l) (left-id-is (c .before .before))
@@ -88,11 +86,12 @@ holds c =
     let a = s .args in
     let ok = s .pre .0 .1 in
     let h = s .pre .0 .0 in
-    subst (λ (r : List ℤ). Held (getD (a .start .now) (a .k) 0) (entriesTo (G s) (a .k)) r (a .start .now) (a .entry .now) (a .run .now) (a .mode) (a .first .now) (a .cost .now) (a .next .now)) (sym (row-is c))
-    (held (a .n) (G s) ok (a .k) (omega (arith, h)) (T s) (s .pre .1 .0) (s .pre .1 .1) (s .pre .0 .2) (getD (a .start .now) (a .k) 0)
+    let w = candidate (G s) (a .k) in
+    held (a .n) (G s) ok (a .k) (omega (arith, h)) (T s) (s .pre .1 .0) (s .pre .1 .1) (s .pre .0 .2) w
     (omega (arith, ok .forward (a .k) h, ok .inside (a .k) h))
-    (candidate (G s) (a .k) .leftId)
-    (ok .leftIds (a .k) h))
+    (c .row .result .now)
+    (row-is c)
+    (ok .leftIds (a .k) h)
 
 relax-requires : tie.Need-relax-requires
 relax-requires c κs = let r = c .before .before .before .before in (entriesTo (G (row-start r)) (row-start r .args .k), holds r)
@@ -105,9 +104,7 @@ found c =
     let s = row-start r in
     let w = candidate (G s) (s .args .k) in
     let es = entriesTo (G s) (s .args .k) in
-    c .relax .ensures .0 es (holds r)
-    ∙ ap (λ (row : List ℤ). takenOf (taken (inRow row) es (mark (w .start)))) (row-is r)
-    ∙ ap takenOf (row-taken (G s) w es)
+    c .relax .ensures .0 es (holds r) ∙ row-taken (G s) w (r .row .result .now) (row-is r) es
 
 mul-own-cost : tie.Need-mul-own-cost
 mul-own-cost c = let s = relax-start c in omega (arith, s .pre .0 .0, s .pre .0 .1 .few)

@@ -1,16 +1,15 @@
 -- The rows hold the entries of all candidates, so the relaxation at n finds the offer that the end mark takes. Assumes nothing.
 use borrow.Author.Needs.{needs}
 use Prim.Native.Nat.{ℕ}
-use mathlib.Core.Path.{_≡_, refl, sym, ap, ap₂, _∙_, subst}
+use mathlib.Core.Path.{_≡_, refl, sym, ap₂, _∙_, subst}
 use mathlib.Core.List.{List}
 use native.Mathlib.Omega.{arith}
 use native.Mathlib.Numerals.{add-one}
-use lib.IntN.{ℤ, pos}
-use Rattle.ground.specs.Entry.{markId}
+use lib.IntN.{pos}
 use Rattle.lattice.specs.Words.{Given, given, count}
 use Rattle.lattice.specs.Lattice.{LatticeEntry, mark, taken, jointsOf, entriesTo, lattice}
 use Rattle.lattice.specs.Rows.{LatticeRows, rows, Filled}
-use Rattle.lattice.specs.Inner.{takenOf, inRow, Held, NearTaken, entered}
+use Rattle.lattice.specs.Inner.{takenOf, Held, NearTaken, entered}
 use Rattle.lattice.specs.declared.relaxation.Taken.{Taken}
 use Rattle.lattice.proofs.SizeLaws.{sum-of}
 use Rattle.lattice.proofs.StepLaws.{row-taken, held, linkable, stepped-end, ranged}
@@ -55,8 +54,11 @@ holds c =
     let s = row-start c in
     let a = s .args in
     let ok = s .pre .0 .0 in
-    subst (λ (r : List ℤ). Held (a .n) (es s) r (a .start .now) (a .entry .now) (a .run .now) (a .mode) (a .first .now) (a .cost .now) (a .next .now)) (sym (c .row .ensures))
-    (held (a .n) (G s) ok (count (G s)) (omega arith) (T s) (s .pre .1 .0) (s .pre .1 .1) (s .pre .0 .1) (a .n) (omega arith) markId (omega (arith, ok .high)))
+    held (a .n) (G s) ok (count (G s)) (omega arith) (T s) (s .pre .1 .0) (s .pre .1 .1) (s .pre .0 .1) (mark (a .n))
+    (omega arith)
+    (c .row .result .now)
+    (c .row .ensures)
+    (omega (arith, ok .high))
 
 relax-requires : tie.Need-relax-requires
 relax-requires c κs = let r = c .before .before .before in (es (row-start r), holds r)
@@ -66,9 +68,7 @@ found : (c : tie.After-relax) → let s = relax-start c in c .relax .result ≡ 
 found c =
     let r = relax-row c in
     let s = row-start r in
-    c .relax .ensures .0 (es s) (holds r)
-    ∙ ap (λ (row : List ℤ). takenOf (taken (inRow row) (es s) (mark (s .args .n)))) (r .row .ensures)
-    ∙ ap takenOf (row-taken (G s) (mark (s .args .n)) (es s))
+    c .relax .ensures .0 (es s) (holds r) ∙ row-taken (G s) (mark (s .args .n)) (r .row .result .now) (r .row .ensures) (es s)
 
 near : (c : tie.After-relax) → let s = relax-start c in NearTaken (s .args .n) (takenOf (taken (jointsOf (G s)) (es s) (mark (s .args .n))))
 near c = let s = relax-start c in subst (NearTaken (s .args .n)) (found c) (c .relax .ensures .1)
