@@ -1,4 +1,4 @@
--- Document 01, "Largest sizes": each once. (Thresholds are held by u16; height and width stand where they are tested.)
+-- Document 01, "Largest sizes": each once.
 use Prim.Native.Nat.{ℕ}
 
 -- Bytes of a text.
@@ -16,3 +16,15 @@ priceLimit = 32767
 -- Candidates.
 abbrev pub candidateLimit : ℕ
 candidateLimit = 16384
+
+-- A threshold of the Decompose mode.
+abbrev pub thresholdLimit : ℕ
+thresholdLimit = 65535
+
+-- The height and the width of a matrix.
+abbrev pub sizeLimit : ℕ
+sizeLimit = 65535
+
+-- The highest number of a kind.
+abbrev pub kindLimit : ℕ
+kindLimit = 2

@@ -6,6 +6,11 @@ ghost use lib.IntN.{pos};
 ghost use Rattle.ground.specs.Limits.{priceLimit};
 ghost use Rattle.ground.specs.Charge.{charge, above, PricesFit};
 
+// The most that a price and a threshold can be.
+pub const PRICE_LIMIT: u32 = 32_767;
+
+pub const THRESHOLD_LIMIT: u32 = 65_535;
+
 // Two thresholds and two prices: of kanji only words, and of others.
 pub struct Penalty {
     pub kanji_threshold: u16,

@@ -6,6 +6,9 @@ ghost use lib.ListN.{length};
 ghost use lib.Signed.{mag};
 ghost use Rattle.ground.specs.Matrix.{matrixRow, valueIn};
 
+// The most that a height or a width can be.
+pub const SIZE_LIMIT: u32 = 65_535;
+
 // The row of a later word's left id.
 pub fn row(matrix: &[i16], width: usize, left_id: usize) -> &[i16]
     requires { ⌜ «left_id» * width + width ≤ length (now matrix) ⌝ }

@@ -1,2 +1,2 @@
 pub mod WalkLaws
-mod Passes
+pub mod Passes

@@ -1,9 +1,9 @@
 -- The invariants of the two passes, and what one turn of each does. Assumes nothing.
 use Prim.Native.Nat.{ℕ, zero, suc, _+_, _-_, _≤_, _<_}
 use mathlib.Core.Path.{_≡_, refl, ap, _∙_, sym, subst}
-use mathlib.Core.List.{List, [], _∷_, _++_}
+use mathlib.Core.List.{List, [], _∷_, _++_, map}
 use native.Mathlib.Omega.{arith}
-use lib.ListN.{length, take, drop, getD, set, length-set, take-append-drop}
+use lib.ListN.{length, take, drop, getD, set, length-set, length-map, take-append-drop}
 use lib.Seq.{take-suc, append-snoc, set-at, length-take-le}
 use Rattle.ground.specs.Entry.{noneLink}
 use Rattle.ground.specs.Rows.{over}
@@ -54,24 +54,26 @@ module _ (start end left : List ℕ) (n : ℕ) where
 
 -- ---- the second pass
 
--- The candidates found so far stand behind the first i places, and the links from here lead to the others.
-pub record Writing (left : List ℕ) (mark count : ℕ) (word₀ word : List ℕ) (entry i : ℕ) : Type 0 where
+-- The links from here lead to the candidates that stand before those found so far.
+pub record Linking (left : List ℕ) (mark count : ℕ) (found : List ℕ) (entry i : ℕ) : Type 0 where
   pub within : i ≤ count
-  pub kept : length word ≡ length word₀
-  pub sure : Sure left i entry
-  pub found : List ℕ
+  pub sure : Sure left mark i entry
   pub long : i + length found ≡ count
   pub same : linked left i entry found ≡ linked left count mark []
-  pub holds : word ≡ take i word₀ ++ (found ++ drop count word₀)
+
+-- What is told of those found so far stands in a row behind its first i places.
+pub record Placed (tell : ℕ → ℕ) (found : List ℕ) (count i : ℕ) (row₀ row : List ℕ) : Type 0 where
+  pub kept : length row ≡ length row₀
+  pub holds : row ≡ take i row₀ ++ (map tell found ++ drop count row₀)
 
 -- a link that is still to be followed stands in the row and leads to a candidate
-pub sure-link : (left : List ℕ) (i entry : ℕ) → 0 < i → Sure left i entry
-    → (entry < length left) × (1 ≤ getD left entry 0) × Sure left (i - 1) (getD left entry 0)
+pub sure-link : (left : List ℕ) (mark i entry : ℕ) → 0 < i → Sure left mark i entry
+    → (entry < length left) × (1 ≤ getD left entry 0) × (getD left entry 0 < mark) × Sure left mark (i - 1) (getD left entry 0)
 unfolding Sure
-sure-link left zero entry h s = absurd (omega arith)
-sure-link left (suc i) entry h s =
+sure-link left mark zero entry h s = absurd (omega arith)
+sure-link left mark (suc i) entry h s =
     let e : i ≡ suc i - 1 = omega arith in
-    (s .0, s .1, subst (λ (j : ℕ). Sure left j (getD left entry 0)) e (s .2))
+    (s .0, s .1, s .2, subst (λ (j : ℕ). Sure left mark j (getD left entry 0)) e (s .3))
 
 linked-more : (left : List ℕ) (i entry : ℕ) (found : List ℕ) → 0 < i
     → linked left (i - 1) (getD left entry 0) ((getD left entry 0 - 1) ∷ found) ≡ linked left i entry found
@@ -81,50 +83,55 @@ linked-more left (suc i) entry found h =
     let e : suc i - 1 ≡ i = omega arith in
     ap (λ (j : ℕ). linked left j (getD left entry 0) ((getD left entry 0 - 1) ∷ found)) e
 
-module _ (left : List ℕ) (mark count : ℕ) (word₀ : List ℕ) (room : count ≤ length word₀) where
-  pub writing-none : Sure left count mark → Writing left mark count word₀ word₀ mark count
-  writing-none s =
-      record {
-        within = omega arith;
-        kept = refl;
-        sure = s;
-        found = [];
-        long = omega arith;
-        same = refl;
-        holds = sym (take-append-drop count word₀);
-      }
+module _ (left : List ℕ) (mark count : ℕ) where
+  pub linking-none : Sure left mark count mark → Linking left mark count [] mark count
+  linking-none s = record { within = omega arith; sure = s; long = omega arith; same = refl }
 
-  module _ (word : List ℕ) (entry i : ℕ) (h : Writing left mark count word₀ word entry i) where
-    pub writing-more : 0 < i
-        → Writing left mark count word₀ (set word (i - 1) (getD left entry 0 - 1)) (getD left entry 0) (i - 1)
-    writing-more l =
-        let link = getD left entry 0 in
-        let j = i - 1 in
-        let last : i ≡ suc j = omega arith in
-        let x = getD word₀ j 0 in
-        let rest = h .found ++ drop count word₀ in
-        let shown : word ≡ take j word₀ ++ x ∷ rest =
-        h .holds
-        ∙ ap (λ (k : ℕ). take k word₀ ++ rest) last
-        ∙ ap (λ (front : List ℕ). front ++ rest) (take-suc word₀ j 0 (omega arith))
-        ∙ append-snoc (take j word₀) x rest in
+  module _ (found : List ℕ) (entry i : ℕ) (h : Linking left mark count found entry i) where
+    -- one link further: its candidate stands in front of those found
+    pub linking-more : 0 < i → Linking left mark count ((getD left entry 0 - 1) ∷ found) (getD left entry 0) (i - 1)
+    linking-more l =
         record {
           within = omega arith;
-          kept = length-set word j (link - 1) ∙ h .kept;
-          sure = sure-link left i entry l (h .sure) .2;
-          found = (link - 1) ∷ h .found;
+          sure = sure-link left mark i entry l (h .sure) .3;
           long = omega (arith, h .long);
-          same = linked-more left i entry (h .found) l ∙ h .same;
-          holds = ap (λ (row : List ℕ). set row j (link - 1)) shown ∙ set-at (take j word₀) x rest (link - 1) j (length-take-le j word₀ (omega arith));
+          same = linked-more left i entry found l ∙ h .same;
         }
 
-    pub writing-all : i ≤ 0 → word ≡ over (linked left count mark []) word₀
+    pub linking-all : i ≤ 0 → found ≡ linked left count mark []
     unfolding linked
-    writing-all l =
+    linking-all l =
         let none : i ≡ 0 = omega arith in
-        let all : h .found ≡ linked left count mark [] = subst (λ (k : ℕ). linked left k entry (h .found) ≡ linked left count mark []) none (h .same) in
-        let long : count ≡ length (h .found) = omega (arith, h .long) in
-        h .holds
-        ∙ ap (λ (k : ℕ). take k word₀ ++ (h .found ++ drop count word₀)) none
-        ∙ ap (λ (k : ℕ). h .found ++ drop k word₀) long
-        ∙ ap (λ (new : List ℕ). over new word₀) all
+        subst (λ (k : ℕ). linked left k entry found ≡ linked left count mark []) none (h .same)
+
+module _ (tell : ℕ → ℕ) (count : ℕ) (row₀ : List ℕ) (room : count ≤ length row₀) where
+  pub placed-none : Placed tell [] count count row₀ row₀
+  placed-none = record { kept = refl; holds = sym (take-append-drop count row₀) }
+
+  -- one place further to the left
+  pub placed-more : (found row : List ℕ) (i k : ℕ) → 0 < i → i ≤ count → Placed tell found count i row₀ row
+      → Placed tell (k ∷ found) count (i - 1) row₀ (set row (i - 1) (tell k))
+  placed-more found row i k l w h =
+      let j = i - 1 in
+      let last : i ≡ suc j = omega arith in
+      let x = getD row₀ j 0 in
+      let rest = map tell found ++ drop count row₀ in
+      let shown : row ≡ take j row₀ ++ x ∷ rest =
+      h .holds
+      ∙ ap (λ (k : ℕ). take k row₀ ++ rest) last
+      ∙ ap (λ (front : List ℕ). front ++ rest) (take-suc row₀ j 0 (omega arith))
+      ∙ append-snoc (take j row₀) x rest in
+      record {
+        kept = length-set row j (tell k) ∙ h .kept;
+        holds = ap (λ (row : List ℕ). set row j (tell k)) shown ∙ set-at (take j row₀) x rest (tell k) j (length-take-le j row₀ (omega arith));
+      }
+
+  -- at the first place the row is written
+  pub placed-all : (found row : List ℕ) (i : ℕ) → i ≤ 0 → i + length found ≡ count → Placed tell found count i row₀ row
+      → row ≡ over (map tell found) row₀
+  placed-all found row i l long h =
+      let none : i ≡ 0 = omega arith in
+      let many : count ≡ length (map tell found) = omega (arith, length-map found tell) in
+      h .holds
+      ∙ ap (λ (k : ℕ). take k row₀ ++ (map tell found ++ drop count row₀)) none
+      ∙ ap (λ (k : ℕ). map tell found ++ drop k row₀) many

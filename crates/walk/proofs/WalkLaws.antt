@@ -183,7 +183,7 @@ module _ (start end left : List ℕ) where
   -- a walk's links, followed once more and not tested, give the same candidates
   walk-linked : {position entry : ℕ} {found all : List ℕ} → length start + 2 ≤ length left → entry ≤ length start + 1
       → Walk position entry found all
-      → ((i : ℕ) × (length all ≡ i + length found) × Sure left i entry × (linked left i entry found ≡ all))
+      → ((i : ℕ) × (length all ≡ i + length found) × Sure left (length start + 1) i entry × (linked left i entry found ≡ all))
   unfolding linked Sure
   walk-linked room h (arrives l) = (0, omega arith, tt, refl)
   walk-linked {position} {entry} {found} room h (goes {k = k} l w) =
@@ -193,7 +193,7 @@ module _ (start end left : List ℕ) where
       let f = walk-linked room (omega arith) w in (
         suc (f .0),
         omega arith,
-        (omega arith, omega arith, subst (λ (x : ℕ). Sure left (f .0) x) (sym link) (f .2)),
+        (omega arith, omega arith, omega arith, subst (λ (x : ℕ). Sure left (length start + 1) (f .0) x) (sym link) (f .2)),
         ap (λ (x : ℕ). linked left (f .0) x ((getD left entry 0 - 1) ∷ found)) link
             ∙ ap (λ (x : ℕ). linked left (f .0) (suc k) (x ∷ found)) back
             ∙ f .3,
@@ -201,12 +201,12 @@ module _ (start end left : List ℕ) where
 
   -- the links of a walk that finds candidates, followed once more: as many as candidates, and they lead to the same
   pub walk-again : (n : ℕ) (found : List ℕ) → length start + 2 ≤ length left → walkBack start end left n ≡ some found
-      → Sure left (length found) (length start + 1) × (linked left (length found) (length start + 1) [] ≡ found)
+      → Sure left (length start + 1) (length found) (length start + 1) × (linked left (length found) (length start + 1) [] ≡ found)
   walk-again n found room e =
       let f = walk-linked room (omega arith) (walk-of n found e) in
       let long : f .0 ≡ length found = omega arith in
       let mark : suc (length start) ≡ length start + 1 = omega arith in (
-        subst (λ (i : ℕ). Sure left i (length start + 1)) long (subst (λ (entry : ℕ). Sure left (f .0) entry) mark (f .2)),
+        subst (λ (i : ℕ). Sure left (length start + 1) i (length start + 1)) long (subst (λ (entry : ℕ). Sure left (length start + 1) (f .0) entry) mark (f .2)),
         subst (λ (i : ℕ). linked left i (length start + 1) [] ≡ found) long (subst (λ (entry : ℕ). linked left (f .0) entry [] ≡ found) mark (f .3)),
       )
 

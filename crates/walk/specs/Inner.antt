@@ -17,8 +17,8 @@ linked left zero entry found = found
 linked left (suc count) entry found =
     linked left count (getD left entry 0) ((getD left entry 0 - 1) ∷ found)
 
--- That so many links, followed from an entry, stand in the row and lead to a candidate.
-unfoldable pub Sure : List ℕ → ℕ → ℕ → Type 0
-Sure left zero entry = Unit
-Sure left (suc count) entry =
-    (entry < length left) × (1 ≤ getD left entry 0) × Sure left count (getD left entry 0)
+-- That so many links, followed from an entry, stand in the row and lead to a candidate: to an entry below the end mark's number.
+unfoldable pub Sure : List ℕ → ℕ → ℕ → ℕ → Type 0
+Sure left mark zero entry = Unit
+Sure left mark (suc count) entry =
+    (entry < length left) × (1 ≤ getD left entry 0) × (getD left entry 0 < mark) × Sure left mark count (getD left entry 0)

@@ -57,7 +57,7 @@ fn link_at(start: &[u16], end: &[u16], position: usize, link: u16) -> Link
 }
 
 // The first pass: each link from the end mark on is tested, and the candidates are counted. Nothing is written.
-fn count(start: &[u16], end: &[u16], left: &[u16], n: usize) -> Walked
+pub fn count(start: &[u16], end: &[u16], left: &[u16], n: usize) -> Walked
     requires { ⌜ (length (now end) ≡ length (now start)) × (length (now start) + 2 ≤ length (now left)) ⌝ }
     ensures { λ r. ⌜ r ≡ walkedOf (walkBack (now (start .entry)) (now (end .entry)) (now (left .entry)) n) ⌝ }
 {
@@ -80,7 +80,7 @@ fn count(start: &[u16], end: &[u16], left: &[u16], n: usize) -> Walked
 // The second pass: so many links once more from the end mark on, and the candidates' numbers from the last place to the first. Nothing is
 // tested again.
 fn write(left: &[u16], mark: usize, count: usize, word: &mut [u16])
-    requires { ⌜ Sure (now left) count mark × (count ≤ length (now word)) ⌝ }
+    requires { ⌜ Sure (now left) mark count mark × (count ≤ length (now word)) ⌝ }
     ensures { λ _. ⌜ now (word .exit) ≡ over (linked (now (left .entry)) count mark []) (now (word .entry)) ⌝ }
 {
     let mut entry = mark;

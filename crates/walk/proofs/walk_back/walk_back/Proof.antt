@@ -105,14 +105,14 @@ fits c =
 
 -- its links, followed once more
 again : (c : tie.After-count2)
-    → Sure (at-count (c .before .before) .args .left .now) (c .count2 .given .0 .0) (length (at-count (c .before .before) .args .start .now) + 1)
+    → Sure (at-count (c .before .before) .args .left .now) (length (at-count (c .before .before) .args .start .now) + 1) (c .count2 .given .0 .0) (length (at-count (c .before .before) .args .start .now) + 1)
     × (linked (at-count (c .before .before) .args .left .now) (c .count2 .given .0 .0) (length (at-count (c .before .before) .args .start .now) + 1) []
     ≡ found c .0)
 again c =
     let a = at-count (c .before .before) .args in
     let f = found c in
     subst
-    (λ (count : ℕ). Sure (a .left .now) count (length (a .start .now) + 1) × (linked (a .left .now) count (length (a .start .now) + 1) [] ≡ f .0))
+    (λ (count : ℕ). Sure (a .left .now) (length (a .start .now) + 1) count (length (a .start .now) + 1) × (linked (a .left .now) count (length (a .start .now) + 1) [] ≡ f .0))
     (f .2)
     (walk-again (a .start .now) (a .end .now) (a .left .now) (a .n) (f .0) (omega arith) (f .1))
 

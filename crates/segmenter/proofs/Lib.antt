@@ -1,0 +1,3 @@
+mod WordLaws
+pub mod WorkLaws
+pub mod JobLaws

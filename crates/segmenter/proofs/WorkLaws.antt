@@ -1,0 +1,92 @@
+-- The work of a job that passed its tests: what its steps leave is what `worked` says. Assumes that the lattice accepts what is given.
+use Prim.Native.Nat.{ℕ, suc, _+_, _<_}
+use mathlib.Core.Path.{_≡_, refl, ap, _∙_, sym}
+use mathlib.Core.Logic.{_↔_}
+use mathlib.Core.Bool.{Bool, true, false, not}
+use mathlib.Core.List.{List}
+use native.Mathlib.Omega.{arith}
+use lib.ListN.{length, getD, take}
+use lib.IntN.{ℤ, pos}
+use lib.Dec.{eqb}
+use borrow.Author.Tests.{eq-eqb, ne-eqb}
+use Rattle.ground.specs.Rows.{over}
+use Rattle.ground.specs.Entry.{noneLink}
+use Rattle.ground.specs.Text.{offsets, runs}
+use Rattle.ground.specs.declared.text.Letter.{Letter}
+use Rattle.ground.specs.declared.answer.Answer.{Answer}
+use Rattle.lattice.specs.Words.{Given, count}
+use Rattle.lattice.specs.Lattice.{LatticeEntry, entryNumbered, lattice}
+use Rattle.lattice.specs.Rows.{lefts, costs, rows, Filled}
+use Rattle.lattice.specs.Accepted.{Accepted}
+use Rattle.lattice.proofs.LatticeLaws.{lattice-length}
+use Rattle.lattice.proofs.RuleLaws.{left-none}
+use Rattle.lattice.proofs.RowRules.{lefts-at, costs-at}
+use Rattle.lattice.proofs.FillLaws.{costs-length}
+use Rattle.lattice.proofs.OverLaws.{over-at}
+use Rattle.walk.specs.WalkBack.{walkBack}
+use Rattle.checks.specs.Job.{JobRows, jobRows}
+use Rattle.segmenter.specs.Segment.{answerBy, wordsBy, wordOffsets, wordIds, wordKinds, outcome, worked}
+use Rattle.segmenter.specs.Inner.{endReached}
+
+-- What the last step leaves, from the offsets, the links and the end mark's cost that it was lent.
+pub record Ended (n : ℕ) (g : Given) (kind offset left : List ℕ) (cost : ℤ) (r : JobRows) (answer : Answer) (wordOffset wordId wordKind : List ℕ) : Type 0 where
+  pub answers : answer ≡ answerBy (endReached (g .start) left) (walkBack (g .start) (g .end) left n) cost
+  pub offsets : wordOffset ≡ over (wordOffsets offset (g .start) (wordsBy (endReached (g .start) left) (walkBack (g .start) (g .end) left n))) (r .wordOffset)
+  pub ids : wordId ≡ over (wordIds (g .entry) (wordsBy (endReached (g .start) left) (walkBack (g .start) (g .end) left n))) (r .wordId)
+  pub kinds : wordKind ≡ over (wordKinds kind (wordsBy (endReached (g .start) left) (walkBack (g .start) (g .end) left n))) (r .wordKind)
+
+module _ (n : ℕ) (g : Given) (ok : Accepted n g) where
+  -- the end mark's number is one of the lattice's
+  there : suc (count g) < length (lattice n g)
+  there = omega (arith, lattice-length g n)
+
+  -- the end mark has a left exactly if it is reached
+  pub end-left : endReached (g .start) (lefts (lattice n g)) ≡ entryNumbered (lattice n g) (suc (count g)) .reached
+  end-left = go (entryNumbered (lattice n g) (suc (count g)) .reached) refl
+    where
+      mark : getD (lefts (lattice n g)) (count g + 1) 0 ≡ entryNumbered (lattice n g) (suc (count g)) .left
+      mark = let e : count g + 1 ≡ suc (count g) = omega arith in rw e (lefts-at (lattice n g) (suc (count g)) there)
+
+      none-if : (entryNumbered (lattice n g) (suc (count g)) .left ≡ noneLink) ↔ (entryNumbered (lattice n g) (suc (count g)) .reached ≡ false)
+      none-if = left-none n g ok (suc (count g)) there (omega arith)
+
+      no : true ≡ false → ⊥
+      no e = let z : _≡_ {A = ℕ} 0 1 = cc in omega arith
+
+      go : (t : Bool) → entryNumbered (lattice n g) (suc (count g)) .reached ≡ t → endReached (g .start) (lefts (lattice n g)) ≡ t
+      go true e = ap not (ne-eqb (getD (lefts (lattice n g)) (count g + 1) 0) noneLink (λ q. no (sym e ∙ none-if .0 (sym mark ∙ q))))
+      go false e = ap not (eq-eqb (getD (lefts (lattice n g)) (count g + 1) 0) noneLink (mark ∙ none-if .1 e))
+
+  -- the cost that stands at its place is its cost
+  pub end-cost : (old : List ℤ) → getD (over (costs (lattice n g)) old) (count g + 1) (pos 0) ≡ entryNumbered (lattice n g) (suc (count g)) .cost
+  end-cost old =
+      let e : count g + 1 ≡ suc (count g) = omega arith in
+      over-at (costs (lattice n g)) old (count g + 1) (pos 0) (omega (arith, costs-length (lattice n g), lattice-length g n))
+      ∙ ap (λ (i : ℕ). getD (costs (lattice n g)) i (pos 0)) e
+      ∙ costs-at (lattice n g) (suc (count g)) there
+
+-- the steps, put together
+module _ (ls : List Letter) (kind : List ℕ) (g : Given) (r : JobRows) (ok : Accepted (length ls) g) where
+  pub worked-by : (n : ℕ) (answer : Answer) (offset run first last left : List ℕ) (cost : List ℤ) (next wordOffset wordId wordKind : List ℕ) → n ≡ length ls
+      → offset ≡ over (offsets ls) (r .offset) → run ≡ over (runs ls) (r .run)
+      → Filled n (lattice n g) (rows (r .first) (r .last) (r .left) (r .cost) (r .next)) (rows first last left cost next)
+      → Ended n g kind (offsets ls) (lefts (lattice n g)) (getD cost (count g + 1) (pos 0)) r answer wordOffset wordId wordKind
+      → outcome answer (jobRows offset run first last left cost next wordOffset wordId wordKind) ≡ worked ls kind g r
+  unfolding worked
+  worked-by n answer offset run first last left cost next wordOffset wordId wordKind long o u f e =
+      rw (
+        e .answers,
+        o,
+        u,
+        f .first,
+        f .last,
+        f .left,
+        f .next,
+        e .offsets,
+        e .ids,
+        e .kinds,
+        f .cost,
+        long,
+        end-cost (length ls) g ok (r .cost),
+        end-left (length ls) g ok,
+      )

@@ -1,0 +1,145 @@
+-- 12 by the end mark's left; otherwise the walk back's two passes. Assumes nothing.
+use Prim.Native.Nat.{ℕ, _+_, _≤_}
+use mathlib.Core.Path.{_≡_, refl, ap, ap₂, _∙_, sym, subst}
+use mathlib.Core.Bool.{Bool, true, false, not}
+use mathlib.Core.List.{List, []}
+use mathlib.Core.Option.{Option, none, some}
+use borrow.Author.Needs.{needs}
+use borrow.Author.Tests.{eq-eqb, ne-eqb}
+use native.Mathlib.Omega.{arith}
+use lib.ListN.{length, getD}
+use mir.Syntax.{w32}
+use mir.Facts.{toZ-ofZ}
+use Rattle.ground.specs.Rows.{over}
+use Rattle.ground.specs.Entry.{noneLink}
+use Rattle.ground.specs.declared.answer.Answer.the-variants.{Done}
+use Rattle.walk.specs.WalkBack.{walkBack}
+use Rattle.walk.specs.Inner.{linked, Sure}
+use Rattle.walk.proofs.WalkLaws.{words-fit, walk-again, broken-found, whole-found}
+use Rattle.segmenter.specs.Segment.{answerBy, wordsBy, wordOffsets, wordIds, wordKinds}
+use Rattle.segmenter.specs.Inner.{endReached}
+use Rattle.segmenter.proofs.words.words.Statement.{statement}
+use Rattle.segmenter.proofs.words.words.Tie as tie
+
+add-mark : tie.Need-add-mark
+add-mark c = search needs
+
+mul-if1 : tie.Need-mul-if1
+mul-if1 c = search needs
+
+shared-slice-read-if1 : tie.Need-shared-slice-read-if1
+shared-slice-read-if1 c = search needs
+
+returns : tie.Need-returns
+returns c =
+    let a = c .before .before .before .before .before .before .before .before .before .before .before .args in
+    rw (eq-eqb (getD (a .left .now) (length (a .start .now) + 1) 0) noneLink (c .if1 .taken)) (refl, (refl, (refl, refl)))
+
+abbrev at-count : tie.After-count → tie.Start
+at-count c = c .before .before .before .before .before .before .before .before .before .before .before .before
+
+abbrev walked : tie.After-count → Option (List ℕ)
+walked c = let a = at-count c .args in walkBack (a .start .now) (a .end .now) (a .left .now) (a .n)
+
+-- the end mark has a left
+reached : (c : tie.After-count) → endReached (at-count c .args .start .now) (at-count c .args .left .now) ≡ true
+reached c =
+    let a = at-count c .args in
+    ap not (ne-eqb (getD (a .left .now) (length (a .start .now) + 1) 0) noneLink (c .before .if1 .left))
+
+-- what the walk found, of which the first pass told the count
+found : (c : tie.After-count2) → ((f : List ℕ) × (walked (c .before .before) ≡ some f) × (length f ≡ c .count2 .given .0 .0))
+found c =
+    let k = c .before .before in
+    whole-found (walked k) (c .count2 .given .0 .0) (sym (k .count .ensures) ∙ c .count2 .given .1)
+
+-- it has no more words than the text has characters
+fits : (c : tie.After-count2) → c .count2 .given .0 .0 ≤ at-count (c .before .before) .args .n
+fits c =
+    let a = at-count (c .before .before) .args in
+    let f = found c in
+    omega (arith, f .2, words-fit (a .start .now) (a .end .now) (a .left .now) (a .n) (f .0) (f .1))
+
+-- its links, followed once more
+again : (c : tie.After-count2)
+    → Sure (at-count (c .before .before) .args .left .now) (length (at-count (c .before .before) .args .start .now) + 1) (c .count2 .given .0 .0) (length (at-count (c .before .before) .args .start .now) + 1)
+    × (linked (at-count (c .before .before) .args .left .now) (c .count2 .given .0 .0) (length (at-count (c .before .before) .args .start .now) + 1) []
+    ≡ found c .0)
+again c =
+    let s = at-count (c .before .before) in
+    let a = s .args in
+    let f = found c in
+    subst
+    (λ (count : ℕ). Sure (a .left .now) (length (a .start .now) + 1) count (length (a .start .now) + 1) × (linked (a .left .now) count (length (a .start .now) + 1) [] ≡ f .0))
+    (f .2)
+    (walk-again (a .start .now) (a .end .now) (a .left .now) (a .n) (f .0) (s .pre .1 .0) (f .1))
+
+count-requires : tie.Need-count-requires
+count-requires c κs = search needs
+
+enum-told : tie.Need-enum-told
+enum-told c = search needs
+
+enum-known-count : tie.Need-enum-known-count
+enum-known-count c = search needs
+
+write-requires : tie.Need-write-requires
+write-requires c κs =
+    let w = c .before .before .before .before in
+    let s = at-count (w .before .before) in
+    ((s .pre .0 .0, again w .0), (omega (arith, fits w), omega (arith, fits w), omega (arith, fits w), omega arith))
+
+cast-t27 : tie.Need-cast-t27
+cast-t27 c = omega (arith, fits (c .before .before .before .before .before .before .before .before .before .before .before))
+
+returns-2 : tie.Need-returns-2
+returns-2 c =
+    let k = c .before .before in
+    rw (reached k, broken-found (walked k) (sym (k .count .ensures) ∙ c .enum-told .given .1)) (refl, (refl, (refl, refl)))
+
+same-length : tie.Need-same-length
+same-length c = search needs
+
+same-length-2 : tie.Need-same-length-2
+same-length-2 c = search needs
+
+same-length-3 : tie.Need-same-length-3
+same-length-3 c = search needs
+
+returns-3 : tie.Need-returns-3
+returns-3 c =
+    let e = c .before .before .before .before .before .before in
+    let w = e .before .before .before .before .before in
+    let k = w .before .before in
+    let s = at-count k in
+    let a = s .args in
+    let f = found w in
+    rw (reached k, f .1) (
+      ap₂ Done (sym (f .2)) (toZ-ofZ (s .fits .cost)),
+      (
+        e .write .ensures .0 ∙ ap (λ (words : List ℕ). over (wordOffsets (a .offset .now) (a .start .now) words) (a .word-offset .now)) (again w .1),
+        (
+          e .write .ensures .1 .0 ∙ ap (λ (words : List ℕ). over (wordIds (a .entry .now) words) (a .word-id .now)) (again w .1),
+          e .write .ensures .1 .1 ∙ ap (λ (words : List ℕ). over (wordKinds (a .kind .now) words) (a .word-kind .now)) (again w .1),
+        ),
+      ),
+    )
+
+pub words-spec : {M : Type 1} → statement M
+words-spec =
+    tie.close
+    (tie.spec
+    add-mark
+    mul-if1
+    shared-slice-read-if1
+    returns
+    count-requires
+    enum-told
+    enum-known-count
+    write-requires
+    cast-t27
+    returns-2
+    same-length
+    same-length-2
+    same-length-3
+    returns-3)

@@ -1,0 +1,4 @@
+-- How to read these files: ground's specs/Lib.
+pub mod Segment
+-- Inner, no part of document 01:
+pub mod Inner

@@ -1,0 +1,3 @@
+// The whole job: the tests, then the lattice, then the words.
+pub mod segment;
+pub mod words;
