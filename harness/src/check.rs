@@ -1,6 +1,7 @@
 //! Calls the library on guarded rows and compares everything it could have changed.
 
 pub mod characters;
+pub mod segment;
 pub mod walk_back;
 
 use std::fmt::Debug;
@@ -13,9 +14,30 @@ pub trait Place: Copy + PartialEq + Debug {
     fn pattern(salt: u64, place: usize) -> Self;
 }
 
+impl Place for u8 {
+    fn pattern(salt: u64, place: usize) -> u8 {
+        0x80 | (salt as u8).wrapping_add((place as u8).wrapping_mul(0x9D))
+    }
+}
+
+/// Even, so that it is never "none".
 impl Place for u16 {
     fn pattern(salt: u64, place: usize) -> u16 {
-        0x8000 | (salt as u16).wrapping_add((place as u16).wrapping_mul(0x9E37))
+        0x8000 | ((salt as u16).wrapping_add((place as u16).wrapping_mul(0x9E37)) & 0xFFFE)
+    }
+}
+
+/// Rows of extras and of matrix values are only read; their guards are given.
+impl Place for i16 {
+    fn pattern(salt: u64, place: usize) -> i16 {
+        u16::pattern(salt, place) as i16
+    }
+}
+
+/// Below every cost.
+impl Place for i32 {
+    fn pattern(salt: u64, place: usize) -> i32 {
+        (u32::pattern(salt, place) & 0xBFFF_FFFF) as i32
     }
 }
 

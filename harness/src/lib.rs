@@ -4,8 +4,10 @@
 
 pub mod addresses;
 pub mod check;
+pub mod jobs;
 pub mod library;
 pub mod model;
+pub mod paths;
 pub mod random;
 pub mod texts;
 pub mod walks;

@@ -1,6 +1,7 @@
 //! The C library's face: the answer, and a safe call for each operation.
 
 pub mod characters;
+pub mod segment;
 pub mod walk_back;
 
 /// `jumelavorp_answer` of the C header.

@@ -1,6 +1,7 @@
 //! Document 01 in ordinary Rust, written to be obviously right and not to be fast.
 
 pub mod characters;
+pub mod segment;
 pub mod walk_back;
 
 /// The longest text, in bytes.
@@ -11,3 +12,6 @@ pub const MOST_CHARACTERS: usize = 4_096;
 
 /// The most candidates.
 pub const MOST_CANDIDATES: usize = 16_384;
+
+/// The number that means "none".
+pub const NONE: u16 = 65_535;

@@ -1,9 +1,7 @@
 //! Makers of walks back, right and broken.
 
+pub use crate::model::NONE;
 use crate::random::Random;
-
-/// The number that means "none".
-pub const NONE: u16 = 65_535;
 
 /// What a walk back is given, but for the row it writes.
 #[derive(Clone, Debug, Default)]
