@@ -3,7 +3,7 @@ SHELL := /bin/sh
 .SHELLFLAGS := -euc
 .PHONY: test lib bench
 
-C_PROGRAMS := characters walk_back
+C_PROGRAMS := characters segment walk_back
 MACHINE := $(shell uname -m)
 
 # The library is x86-64 code, and the kit has no Rust to build the harness for it on another machine.
