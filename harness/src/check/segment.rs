@@ -33,6 +33,7 @@ pub struct Check {
     random: Random,
     laid: Laid,
     rows: Guarded,
+    before: Written,
     due: Written,
     seen: [u64; 14],
 }
@@ -43,6 +44,7 @@ impl Check {
             random: Random::new(seed),
             laid: Laid::default(),
             rows: Guarded::default(),
+            before: Written::default(),
             due: Written::default(),
             seen: [0; 14],
         }
@@ -61,6 +63,7 @@ impl Check {
         let salt = self.random.bits();
         self.laid.lay_out(job, salt);
         self.rows.refill(lengths, salt);
+        self.rows.copy_to(&mut self.before);
         self.rows.copy_to(&mut self.due);
 
         let given = job.given();
@@ -74,8 +77,20 @@ impl Check {
             parts_agree(&given, &self.due, answer, job);
             paths_agree(&given, answer, job);
         }
+        assert!(self.is_kept(answer), "{}", job.shown());
         self.seen[answer.number as usize] += 1;
         answer
+    }
+
+    /// Whether a refusal left what it has to leave: all rows, or in answer 12 the word rows; and
+    /// an answer 0 the word places beyond the count.
+    fn is_kept(&self, answer: Answer) -> bool {
+        let (before, after) = (&self.before, &self.due);
+        let count = answer.count as usize;
+        let words = before.word_offset[count..] == after.word_offset[count..]
+            && before.word_id[count..] == after.word_id[count..]
+            && before.word_kind[count..] == after.word_kind[count..];
+        words && (answer.number == 0 || answer.number == 12 || before == after)
     }
 
     /// The rows as the last case left them.

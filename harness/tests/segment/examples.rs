@@ -81,6 +81,22 @@ fn kinds_and_ids_of_the_words() {
     assert_eq!(check.cases(), 1);
 }
 
+// B with extras: dearer, the word (0,2) no longer wins; cheaper, it wins by more.
+#[test]
+fn extras() {
+    let mut check = Check::new(79);
+    let with = |extra| {
+        let mut job = b();
+        job.extra[1] = extra;
+        job
+    };
+    gives(&mut check, &with(229), 449, &[1, 4]);
+    gives(&mut check, &with(230), 450, &[0, 3]);
+    gives(&mut check, &with(231), 450, &[0, 3]);
+    gives(&mut check, &with(-32_768), 220 - 32_768, &[1, 4]);
+    assert_eq!(check.cases(), 4);
+}
+
 // D: of equals the first; also where the equals come later, and at the end mark.
 #[test]
 fn d_of_equals_the_first() {
@@ -226,7 +242,7 @@ fn charged_between_the_thresholds() {
     let candidates = [(0, 1, 50), (0, 2, 0), (1, 2, 50)];
     let job = Job::of("アイ".as_bytes(), &candidates).decompose([2, 3_000, 1, 1_700]);
     gives(&mut check, &job, 100, &[0, 2]);
-    // With K and O exchanged it is charged as well, and the same kanji go free.
+    // With K and O exchanged it goes free, and so do two kanji.
     let exchanged = Job::of("アイ".as_bytes(), &candidates).decompose([1, 3_000, 2, 1_700]);
     gives(&mut check, &exchanged, 0, &[1]);
     let kanji = Job::of("東京".as_bytes(), &candidates).decompose([2, 3_000, 1, 1_700]);

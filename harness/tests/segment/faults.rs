@@ -222,6 +222,22 @@ fn candidate_by_candidate() {
     assert!((8..=11).all(|number| check.seen(number) >= 20));
 }
 
+// 8 to 11 at high candidate numbers, up to the last of the most.
+#[test]
+fn high_candidate_numbers() {
+    let mut check = Check::new(94);
+    let even = Job::of(b"ab", &vec![(1, 2, 0); 16_384]);
+    for k in [255, 256, 257, 4_096, 16_383] {
+        for fault in [Kind(k), Start(k), End(k, 0), LeftId(k), RightId(k)] {
+            let mut faulty = base();
+            faulty.job = even.clone();
+            fault.put_into(&mut faulty);
+            assert_eq!(check.job(&faulty.job), fault.answer(&faulty));
+        }
+    }
+    assert_eq!(check.cases(), 5 * 5);
+}
+
 // 9 is never given for the first candidate, whatever lies before its row, and never for equals.
 #[test]
 fn no_start_below_nothing() {

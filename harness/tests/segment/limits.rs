@@ -5,6 +5,7 @@ use harness::check::segment::Check;
 use harness::jobs::{Candidate, Job};
 use harness::library::Answer;
 use harness::model::NONE;
+use harness::texts::ILL_FORMED;
 
 /// A text with one word over all of it.
 fn one_word(text: &[u8], n: u16) -> Job {
@@ -41,6 +42,28 @@ fn sizes_of_the_text() {
         assert_eq!(check.job(&one_word(&text, 1)), Answer::refused(1, good));
     }
     assert_eq!(check.cases(), 4 + 10 + 2 + 4 + 5);
+}
+
+// 1: each ill-formed sequence, and each character cut short at the text's end.
+#[test]
+fn bad_text() {
+    let mut check = Check::new(99);
+    for bad in ILL_FORMED {
+        for behind in ["", "a", "東"] {
+            let text = ["é東".as_bytes(), bad, behind.as_bytes()].concat();
+            assert_eq!(check.job(&one_word(&text, 2)), Answer::refused(1, 5));
+        }
+    }
+    for whole in ["é", "東", "\u{800}", "\u{D7FF}", "𠀀", "\u{10FFFF}"] {
+        for kept in 1..whole.len() {
+            // By turns of chance between guards of 80 and of BF.
+            for _ in 0..16 {
+                let text = ["é東".as_bytes(), &whole.as_bytes()[..kept]].concat();
+                assert_eq!(check.job(&one_word(&text, 2)), Answer::refused(1, 5));
+            }
+        }
+    }
+    assert_eq!(check.seen(1), 3 * 16 + 16 * (1 + 3 * 2 + 2 * 3));
 }
 
 // 3: each candidate row one short and one long, and lengths that are equal in 16 bits; the entry
