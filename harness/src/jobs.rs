@@ -230,7 +230,7 @@ fn text(random: &mut Random, make: Make, n: usize) -> String {
     }
 }
 
-/// Turns of one to six characters of the same kind.
+/// Turns of one to six characters of one script.
 fn scripts(random: &mut Random, n: usize) -> String {
     let mut text = Vec::new();
     while text.len() < n {
