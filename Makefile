@@ -1,17 +1,19 @@
-# make test: the one test command. make lib: the static library. make bench: times beside the Rust's.
+# make test: the one test command. make lib: the static library. make demo: a few addresses cut into words.
+# make bench: times beside the Rust's.
 SHELL := /bin/sh
 .SHELLFLAGS := -euc
-.PHONY: test lib bench
+.PHONY: test lib demo bench
 
 C_PROGRAMS := characters segment walk_back
 MACHINE := $(shell uname -m)
 
-# The library is x86-64 code, and the kit has no Rust to build the harness for it on another machine.
+# The library is x86-64 code, and the kit has no Rust to link with it on another machine.
 ifeq ($(MACHINE),x86_64)
-RUST_TESTS := cd harness && cargo test --offline --locked
+RUST_TESTS := cd harness && cargo test --offline --locked && cd ../bindings/rust && cargo test --offline --locked && \
+	RUSTDOCFLAGS='-D warnings' cargo doc --offline --locked --no-deps
 RUST_BENCH := cd harness && cargo run --offline --locked --release --bin bench
 else
-RUST_TESTS := @echo 'harness: not run, the library is x86-64 code and this machine is $(MACHINE)'
+RUST_TESTS := @echo 'harness and bindings/rust: not run, the library is x86-64 code and this machine is $(MACHINE)'
 RUST_BENCH := @echo 'bench: cannot be run, the library is x86-64 code and this machine is $(MACHINE)' && false
 endif
 
@@ -19,13 +21,17 @@ endif
 # tries the must-fail edits, and its last line is 'N passed, 0 failed'.
 test: lib
 	rt fmt --check
-	for name in $(C_PROGRAMS); do harness/c/run $$name; done
+	for name in $(C_PROGRAMS); do harness/c/run harness/c/$$name.c; done
+	demo/check
 	$(RUST_TESTS)
 	rt ci
 
 # Only a proved crate is built.
 lib:
 	rt staticlib jumelavorp
+
+demo: lib
+	@harness/c/run demo/demo.c
 
 bench: lib
 	$(RUST_BENCH)
