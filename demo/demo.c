@@ -147,7 +147,7 @@ int main(void)
     for (size_t i = 0; i < sizeof jobs / sizeof jobs[0]; i++) {
         jumelavorp_answer a = show(jobs[i].text, jobs[i].mode);
         if (a.number != jobs[i].number || a.place != jobs[i].place) {
-            printf("demo: job %zu has another answer than the one that is due\n", i);
+            fprintf(stderr, "demo: job %zu has another answer than the one that is due\n", i);
             return 1;
         }
     }

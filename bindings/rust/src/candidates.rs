@@ -39,7 +39,8 @@ pub struct WordEntry {
 }
 
 impl WordEntry {
-    /// The entry as it lies in a dictionary: id, cost, left id, right id, each with its low byte first.
+    /// The entry as it lies in a dictionary: id, cost, left id, right id, each with its low byte
+    /// first.
     pub fn to_le_bytes(self) -> [u8; 10] {
         let [a, b, c, d] = self.id.to_le_bytes();
         let [e, f] = self.cost.to_le_bytes();
@@ -83,8 +84,8 @@ pub struct Candidate {
 /// A job's candidates, kept as the rows that the library reads; cleared and filled again from call
 /// to call. A candidate's number is its place here, from 0.
 ///
-/// They have to be pushed in order of their starts, or the job is refused. Of two that cost the same,
-/// the one pushed first is taken.
+/// They have to be pushed in order of their starts, or the job is refused. Of two over the same
+/// characters at the same cost, the one pushed first is taken.
 #[derive(Clone, Debug, Default, PartialEq, Eq)]
 pub struct Candidates {
     start: Vec<u16>,

@@ -44,27 +44,28 @@ pub struct Penalty {
     pub other_price: u32,
 }
 
-/// All that one call of [`segment`](crate::segment) works on. It only borrows, and is cheap to make.
+/// All that one call of [`segment`](crate::segment) works on. It borrows the text (`'a`) and the
+/// lists (`'l`), and is cheap to make.
 #[derive(Clone, Copy, Debug)]
-pub struct Job<'a> {
+pub struct Job<'a, 'l> {
     pub(crate) text: Text<'a>,
-    pub(crate) candidates: CandidateRows<'a>,
-    pub(crate) matrix: Matrix<'a>,
+    pub(crate) candidates: CandidateRows<'l>,
+    pub(crate) matrix: Matrix<'l>,
     pub(crate) mode: Mode,
 }
 
-impl<'a> Job<'a> {
-    /// A job on a string. The candidates are `&Candidates`, or [`CandidateRows`] lent by the caller.
+impl<'a, 'l> Job<'a, 'l> {
+    /// A job on a string. The candidates are `&Candidates`, or [`CandidateRows`] lent by the
+    /// caller.
     pub fn new(
         text: &'a str,
-        candidates: impl Into<CandidateRows<'a>>,
-        matrix: Matrix<'a>,
+        candidates: impl Into<CandidateRows<'l>>,
+        matrix: Matrix<'l>,
         mode: Mode,
-    ) -> Job<'a> {
-        let candidates = candidates.into();
+    ) -> Job<'a, 'l> {
         Job {
             text: Text::Str(text),
-            candidates,
+            candidates: candidates.into(),
             matrix,
             mode,
         }
@@ -73,14 +74,13 @@ impl<'a> Job<'a> {
     /// A job on bytes that come from a stranger: if they are not UTF-8, it is refused.
     pub fn from_bytes(
         text: &'a [u8],
-        candidates: impl Into<CandidateRows<'a>>,
-        matrix: Matrix<'a>,
+        candidates: impl Into<CandidateRows<'l>>,
+        matrix: Matrix<'l>,
         mode: Mode,
-    ) -> Job<'a> {
-        let candidates = candidates.into();
+    ) -> Job<'a, 'l> {
         Job {
             text: Text::Bytes(text),
-            candidates,
+            candidates: candidates.into(),
             matrix,
             mode,
         }

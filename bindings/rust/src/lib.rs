@@ -2,9 +2,9 @@
 //! `jumelavorp`, whose every function is proved to meet its contract, to be safe and to end.
 //!
 //! A [`Job`] is a text, the [`Candidates`] that a dictionary lists for it, a connection [`Matrix`]
-//! and a [`Mode`]. [`segment`] answers with the words, or with a [`Refusal`] that says what was wrong
-//! and where. The [`Rows`] that the library writes are made once and used for every call; no call
-//! allocates, and none panics or hangs, whatever the text and the lists are.
+//! and a [`Mode`]. [`segment`] answers with the words, or with a [`Refusal`] that says what was
+//! wrong and where. The [`Rows`] that the library writes are made once and used for every call; no
+//! call allocates, and none panics or hangs, whatever the text and the lists are.
 //!
 //! ```
 //! use jumelavorp::{segment, Candidate, Candidates, Job, Kind, Matrix, Mode, Rows, WordEntry};

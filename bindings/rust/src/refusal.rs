@@ -7,7 +7,7 @@ use crate::{MOST_BYTES, MOST_CANDIDATES, MOST_CHARACTERS};
 
 /// Why a call was refused: the paper's answers 1 to 13. Shown with `{}`, it says so in plain words.
 ///
-/// Later papers have further answers, so a `match` needs an arm for the rest.
+/// The library may come to have further answers, so a `match` needs an arm for the rest.
 ///
 /// ```
 /// use jumelavorp::{characters, Refusal, Rows};
@@ -135,7 +135,8 @@ impl Display for Refusal {
             Refusal::NotUtf8 { offset } => write!(f, "the text is not UTF-8 from byte {offset} on"),
             Refusal::TextTooLong => write!(
                 f,
-                "the text is too long: it may have at most {MOST_BYTES} bytes and {MOST_CHARACTERS} characters"
+                "the text is too long: it may have at most {MOST_BYTES} bytes and \
+                 {MOST_CHARACTERS} characters"
             ),
             Refusal::UnevenRows => write!(f, "the candidate rows are not of the same length"),
             Refusal::TooManyCandidates => write!(
@@ -144,8 +145,8 @@ impl Display for Refusal {
             ),
             Refusal::MatrixMisfit => write!(
                 f,
-                "the matrix does not fit its sizes: height and width are 1 to 65535, \
-                 and there are height times width values"
+                "the matrix does not fit its sizes: height and width are 1 to 65535, and there \
+                 are height times width values"
             ),
             Refusal::PenaltyTooLarge => write!(
                 f,
@@ -155,9 +156,10 @@ impl Display for Refusal {
                 f,
                 "the rows have too little room for this text and its candidates"
             ),
-            Refusal::NoSuchKind { .. } => {
-                write!(f, "has a kind other than 0 (system), 1 (user) and 2 (unknown)")
-            }
+            Refusal::NoSuchKind { .. } => write!(
+                f,
+                "has a kind other than 0 (system), 1 (user) and 2 (unknown)"
+            ),
             Refusal::OutOfOrder { .. } => write!(f, "starts before the one ahead of it"),
             Refusal::BadSpan { .. } => {
                 write!(f, "does not end after its start, or ends beyond the text")

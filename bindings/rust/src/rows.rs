@@ -34,9 +34,9 @@ impl Rows {
         Rows::with_room(MOST_CHARACTERS, MOST_CANDIDATES)
     }
 
-    /// Rows with room for texts of so many characters and jobs of so many candidates; larger ones are
-    /// refused. Room beyond [`MOST_CHARACTERS`] and [`MOST_CANDIDATES`] could never be used and is
-    /// not made.
+    /// Rows with room for texts of so many characters and jobs of so many candidates; larger ones
+    /// are refused. Room beyond [`MOST_CHARACTERS`] and [`MOST_CANDIDATES`] could never be used and
+    /// is not made.
     pub fn with_room(characters: usize, candidates: usize) -> Rows {
         let characters = characters.min(MOST_CHARACTERS);
         let candidates = candidates.min(MOST_CANDIDATES);
@@ -55,9 +55,9 @@ impl Rows {
         }
     }
 
-    /// The lattice of the last call, if that was a call of [`segment`](crate::segment) that filled it:
-    /// one that found words, or one refused with [`NoPath`](crate::Refusal::NoPath). After any other
-    /// refusal there is none to be seen.
+    /// The lattice of the last call, if that was a call of [`segment`](crate::segment) that filled
+    /// it: one that found words, or one refused with [`NoPath`](crate::Refusal::NoPath). After any
+    /// other refusal there is none to be seen.
     pub fn lattice(&self) -> Option<Lattice<'_>> {
         self.filled.map(|filled| self.lattice_of(filled))
     }
@@ -95,8 +95,9 @@ impl Debug for Rows {
     }
 }
 
-/// The lattice behind an answer, as the library wrote it: n + 1 places for n characters, c + 2 places
-/// for c candidates. Entry 0 is the start mark, entry k + 1 is candidate k, entry c + 1 is the end mark.
+/// The lattice behind an answer, as the library wrote it: n + 1 places for n characters, c + 2
+/// places for c candidates. Entry 0 is the start mark, entry k + 1 is candidate k, entry c + 1 is
+/// the end mark.
 ///
 /// In the raw rows [`NONE`] means "none"; [`entry`](Lattice::entry) and
 /// [`ending_at`](Lattice::ending_at) read them.

@@ -8,11 +8,15 @@ use crate::job::Text;
 use crate::rows::Filled;
 use crate::{ffi, Job, Kind, Lattice, Refusal, Rows};
 
-/// Cuts a job's text into words at the least cost, or says why it cannot be done.
+/// Cuts a job's text into words at the least cost, or says why it cannot be done. Of cuts that cost
+/// the same, the paper says which is taken.
 ///
-/// What comes out borrows the rows, so no answer can be taken for that of a later call. Refused with
-/// [`Refusal::NoPath`], the lattice can still be seen: [`Rows::lattice`].
-pub fn segment<'a, 'r>(job: &Job<'a>, rows: &'r mut Rows) -> Result<Segmented<'a, 'r>, Refusal> {
+/// What comes out borrows the rows, so no answer can be taken for that of a later call. Refused
+/// with [`Refusal::NoPath`], the lattice can still be seen: [`Rows::lattice`].
+pub fn segment<'a, 'r>(
+    job: &Job<'a, '_>,
+    rows: &'r mut Rows,
+) -> Result<Segmented<'a, 'r>, Refusal> {
     let text = job.text;
     let filled = Filled {
         bytes: text.bytes().len(),
@@ -36,7 +40,8 @@ pub fn segment<'a, 'r>(job: &Job<'a>, rows: &'r mut Rows) -> Result<Segmented<'a
 /// The words that a text was cut into, and what they cost. They cover the text without a gap, in no
 /// more words than characters.
 ///
-/// It borrows the rows: once they are used again, this answer is gone.
+/// It borrows the text (`'a`) and the rows (`'r`): once the rows are used again, this answer is
+/// gone.
 ///
 /// ```compile_fail,E0499
 /// # use jumelavorp::{segment, Candidates, Job, Matrix, Mode, Rows};
@@ -67,8 +72,8 @@ pub struct Word<'a> {
     pub kind: Kind,
     /// The bytes of the text that it takes.
     pub range: Range<usize>,
-    /// The word as it stands in the text. It lives as long as the text does, and not only until the rows
-    /// are used again.
+    /// The word as it stands in the text. It lives as long as the text does, whatever becomes of the
+    /// rows and the lists.
     pub text: &'a str,
 }
 

@@ -2,9 +2,9 @@
 
 use crate::{ffi, Refusal};
 
-/// Follows the links of a finished lattice back from its end, and gives the numbers of the candidates
-/// that are its words, in the order of the text. They are written to the front of `word`, which is
-/// asked to have `n` places, the number of characters.
+/// Follows the links of a finished lattice back from its end, and gives the numbers of the
+/// candidates that are its words, in the order of the text. They are written to the front of
+/// `word`, which is asked to have `n` places, the number of characters.
 ///
 /// It takes any rows: a link that leads nowhere is refused with [`Refusal::BrokenLink`].
 ///

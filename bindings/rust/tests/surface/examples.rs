@@ -7,7 +7,7 @@ use super::{candidate, ids, listed, plain, tokyo_to, FLAT, PENALTY, TOKYO_TO};
 /// The words' ids and the cost, or the answer's number and place.
 type Told = Result<(Vec<u32>, i32), (u32, Option<usize>)>;
 
-fn told(job: Job<'_>) -> Told {
+fn told(job: Job<'_, '_>) -> Told {
     let mut rows = Rows::new();
     let answer = segment(&job, &mut rows);
     answer

@@ -63,7 +63,7 @@ fn listed(words: &[(u16, u16, i16)]) -> Candidates {
 }
 
 /// A job in Normal mode with the examples' matrix.
-fn plain<'a>(text: &'a str, candidates: &'a Candidates) -> Job<'a> {
+fn plain<'a, 'l>(text: &'a str, candidates: &'l Candidates) -> Job<'a, 'l> {
     Job::new(text, candidates, FLAT, Mode::Normal)
 }
 

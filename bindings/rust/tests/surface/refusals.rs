@@ -4,7 +4,7 @@ use jumelavorp::*;
 
 use super::{candidate, listed, plain, tokyo_to, FLAT, PENALTY, TOKYO_TO};
 
-fn refused(job: Job<'_>) -> Refusal {
+fn refused(job: Job<'_, '_>) -> Refusal {
     segment(&job, &mut Rows::new()).unwrap_err()
 }
 

@@ -59,20 +59,20 @@ fn a_lattice_is_seen_only_after_its_own_call() {
     assert_eq!(rows.lattice().unwrap().furthest(), 0);
 }
 
+// The words' texts borrow the text alone: rows and lists are free for the next address.
 #[test]
-fn words_outlive_the_rows() {
-    let candidates = tokyo_to();
-    let words: Vec<Word<'_>> = {
-        let mut rows = Rows::new();
-        let words = segment(&plain(TOKYO_TO, &candidates), &mut rows)
-            .unwrap()
-            .words();
-        words.collect()
-    };
-    assert_eq!(
-        words.iter().map(|word| word.text).collect::<String>(),
-        TOKYO_TO
-    );
+fn words_outlive_the_rows_and_the_lists() {
+    fn cut<'a>(text: &'a str, candidates: &mut Candidates, rows: &mut Rows) -> Vec<&'a str> {
+        candidates.clear();
+        candidates.extend([candidate(0, 2, 0, 0), candidate(2, 3, 1, 0)]);
+        let job = plain(text, candidates);
+        let words = segment(&job, rows).unwrap().words();
+        words.map(|word| word.text).collect()
+    }
+    let (mut candidates, mut rows) = (Candidates::new(), Rows::new());
+    let first = cut(TOKYO_TO, &mut candidates, &mut rows);
+    let second = cut("大阪府", &mut candidates, &mut rows);
+    assert_eq!((first, second), (vec!["東京", "都"], vec!["大阪", "府"]));
 }
 
 #[test]
