@@ -363,9 +363,9 @@ refusal Fine = none
 refusal (Refused answer) = some answer
 
 -- It is the one that the verdict is of.
-pub verdict-tells : (o : Option Answer) → refusal (verdictOf o) ≡ o
-verdict-tells none = refl
-verdict-tells (some answer) = refl
+pub verdict-told : (o : Option Answer) (told : Verdict) → told ≡ verdictOf o → o ≡ refusal told
+verdict-told none told e = sym (ap refusal e)
+verdict-told (some answer) told e = sym (ap refusal e)
 
 -- The refusal that the tests of a text tell.
 abbrev pub text-refusal : Checked → Option Answer
@@ -373,13 +373,13 @@ text-refusal (Checked.Passed n) = none
 text-refusal (Checked.Refused answer) = some answer
 
 -- It is the text's.
-pub text-tells : (text : List ℕ) → text-refusal (checked text) ≡ textRefused text
+pub text-told : (text : List ℕ) (told : Checked) → told ≡ checked text → textRefused text ≡ text-refusal told
 unfolding checked
-text-tells text = go (textRefused text)
+text-told text told e = go (textRefused text) e
   where
-    go : (o : Option Answer) → text-refusal (checkedBy o (length (letters text))) ≡ o
-    go none = refl
-    go (some answer) = refl
+    go : (o : Option Answer) → told ≡ checkedBy o (length (letters text)) → o ≡ text-refusal told
+    go none e = sym (ap text-refusal e)
+    go (some answer) e = sym (ap text-refusal e)
 
 -- Whether no mode is told.
 abbrev pub nameless : Named → Bool
@@ -392,19 +392,19 @@ modeIn Other mode = mode
 modeIn (Known found) mode = found
 
 -- They are the test of the mode, and the mode.
-pub named-tells : (t : Bool) (mode : Mode) → (nameless (namedBy t mode) ≡ t) × (modeIn (namedBy t mode) mode ≡ mode)
-named-tells true mode = (refl, refl)
-named-tells false mode = (refl, refl)
+pub mode-told : (t : Bool) (mode : Mode) (told : Named) → told ≡ namedBy t mode → (t ≡ nameless told) × (modeIn told mode ≡ mode)
+mode-told true mode told e = (sym (ap nameless e), ap (λ (n : Named). modeIn n mode) e)
+mode-told false mode told e = (sym (ap nameless e), ap (λ (n : Named). modeIn n mode) e)
 
 -- Inputs that passed: no test of them holds, and the number of characters and the mode are as told.
-pub inputs-tell : (o : Option Answer) (n m : ℕ) (mode found : Mode) → inputsBy o n mode ≡ Inputs.Passed m found → (o ≡ none) × (n ≡ m) × (mode ≡ found)
-inputs-tell none n m mode found e = (refl, cc, cc)
-inputs-tell (some answer) n m mode found e = absurd (let z : _≡_ {A = ℕ} 0 1 = cc in omega arith)
+pub inputs-told : (o : Option Answer) (n m : ℕ) (mode found : Mode) → Inputs.Passed m found ≡ inputsBy o n mode → (o ≡ none) × (n ≡ m) × (mode ≡ found)
+inputs-told none n m mode found e = (refl, cc, cc)
+inputs-told (some answer) n m mode found e = absurd (let z : _≡_ {A = ℕ} 0 1 = cc in omega arith)
 
 -- Inputs that failed: the answer is the one that is told.
-pub inputs-fail : (o : Option Answer) (n : ℕ) (mode : Mode) (answer : Answer) → inputsBy o n mode ≡ Inputs.Failed answer → o ≡ some answer
-inputs-fail none n mode answer e = absurd (let z : _≡_ {A = ℕ} 0 1 = cc in omega arith)
-inputs-fail (some other) n mode answer e = let same : other ≡ answer = cc in ap some same
+pub failure-told : (o : Option Answer) (n : ℕ) (mode : Mode) (answer : Answer) → Inputs.Failed answer ≡ inputsBy o n mode → o ≡ some answer
+failure-told none n mode answer e = absurd (let z : _≡_ {A = ℕ} 0 1 = cc in omega arith)
+failure-told (some other) n mode answer e = let same : other ≡ answer = cc in ap some same
 
 -- ---- the answers
 

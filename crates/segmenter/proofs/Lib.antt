@@ -1,3 +1,4 @@
 mod WordLaws
 pub mod WorkLaws
+pub mod LinkLaws
 pub mod JobLaws

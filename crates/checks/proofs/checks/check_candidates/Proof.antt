@@ -8,7 +8,7 @@ use lib.ListN.{length}
 use Rattle.ground.specs.declared.answer.Answer.{Answer}
 use Rattle.checks.specs.Checks.{candidateRefused, candidatesRefused, firstRefused}
 use Rattle.checks.specs.Inner.{verdictOf}
-use Rattle.checks.proofs.CheckLaws.{first-step, or-none, or-some, refusal, verdict-tells}
+use Rattle.checks.proofs.CheckLaws.{first-step, or-none, or-some, refusal, verdict-told}
 use Rattle.checks.proofs.checks.check_candidates.Statement.{statement}
 use Rattle.checks.proofs.checks.check_candidates.Tie as tie
 
@@ -52,7 +52,7 @@ first c =
 -- candidate k's is what its tests told
 told : (c : tie.After-check-candidate Inv-loop μ-loop)
     → test (at-loop (c .before .before)) (c .before .before .loop .k) ≡ refusal (c .check-candidate .result)
-told c = sym (ap refusal (c .check-candidate .ensures) ∙ verdict-tells (test (at-loop (c .before .before)) (c .before .before .loop .k)))
+told c = verdict-told (test (at-loop (c .before .before)) (c .before .before .loop .k)) (c .check-candidate .result) (c .check-candidate .ensures)
 
 returns : tie.Need-returns Inv-loop μ-loop
 returns c =

@@ -1,6 +1,6 @@
 -- A test at a time: those before it did not hold. Assumes nothing.
 use mathlib.Core.Path.{_≡_, ap, ap₂, _∙_, sym}
-use mathlib.Core.Bool.{Bool, false}
+use mathlib.Core.Bool.{false}
 use mathlib.Core.Option.{none, orElse}
 use borrow.Author.Needs.{needs}
 use borrow.Author.Tests.{lt-ltb, le-ltb}
@@ -8,14 +8,13 @@ use native.Mathlib.Omega.{arith}
 use lib.ListN.{length}
 use lib.Dec.{ltb}
 use Rattle.ground.specs.Limits.{candidateLimit}
-use Rattle.ground.specs.Characters.{checked, textRefused}
+use Rattle.ground.specs.Characters.{textRefused}
 use Rattle.ground.specs.declared.charge.Mode.{Mode}
-use Rattle.ground.specs.declared.text.Checked.the-variants.{Passed}
 use Rattle.ground.proofs.CharacterLaws.{passed}
 use Rattle.checks.specs.Checks.{uneven, badMatrix, badMode, modeOf}
 use Rattle.checks.specs.declared.checks.Named.{Named}
 use Rattle.checks.specs.declared.checks.Inputs.the-variants as Inputs
-use Rattle.checks.proofs.CheckLaws.{text-refusal, text-tells, nameless, modeIn, named-tells}
+use Rattle.checks.proofs.CheckLaws.{text-refusal, text-told, nameless, modeIn, mode-told}
 use Rattle.checks.proofs.checks.check_inputs.Statement.{statement}
 use Rattle.checks.proofs.checks.check_inputs.Tie as tie
 
@@ -29,12 +28,12 @@ abbrev at-start : tie.After-uneven → tie.Start
 at-start c = at-check (at-passed c)
 
 -- what the tests of the text told
-text-passed : (c : tie.After-uneven) → checked (at-start c .args .text .now) ≡ Passed (c .before .before .n .given .0 .0)
-text-passed c = sym (at-passed c .check .ensures) ∙ c .before .before .n .given .1
+text-refused : (c : tie.After-check) → textRefused (at-check c .args .text .now) ≡ text-refusal (c .check .result)
+text-refused c = text-told (at-check c .args .text .now) (c .check .result) (c .check .ensures)
 
 -- they do not hold
 text-fine : (c : tie.After-uneven) → textRefused (at-start c .args .text .now) ≡ none
-text-fine c = sym (text-tells (at-start c .args .text .now)) ∙ ap text-refusal (text-passed c)
+text-fine c = text-refused (at-passed c) ∙ ap text-refusal (c .before .before .n .given .1)
 
 -- nor does 3
 even : (c : tie.Else1)
@@ -51,13 +50,20 @@ fitting : (c : tie.Else3)
     → let a = at-start (c .before .before .before .before) .args in badMatrix (a .height) (a .width) (length (a .matrix .now)) ≡ false
 fitting c = sym (c .before .bad-matrix .ensures) ∙ c .if3 .left
 
--- 6, and the mode
-abbrev named : tie.After-uneven → Bool × Mode
+abbrev modeBy : tie.Start → Mode
+modeBy s = let a = s .args in modeOf (a .mode) (a .kanji-threshold) (a .kanji-price) (a .other-threshold) (a .other-price)
+
+-- 6, and the mode, as they were told
+named : (c : tie.After-mode-named)
+    → let s = at-start (c .before .before .before .before .before) in
+    let a = s .args in
+    (badMode (a .mode) (a .kanji-threshold) (a .kanji-price) (a .other-threshold) (a .other-price) ≡ nameless (c .mode-named .result))
+    × (modeIn (c .mode-named .result) (modeBy s) ≡ modeBy s)
 named c =
-    let a = at-start c .args in (
-      badMode (a .mode) (a .kanji-threshold) (a .kanji-price) (a .other-threshold) (a .other-price),
-      modeOf (a .mode) (a .kanji-threshold) (a .kanji-price) (a .other-threshold) (a .other-price),
-    )
+    let s = at-start (c .before .before .before .before .before) in
+    let a = s .args in
+    mode-told (badMode (a .mode) (a .kanji-threshold) (a .kanji-price) (a .other-threshold) (a .other-price)) (modeBy s) (c .mode-named .result)
+    (c .mode-named .ensures)
 
 check-requires : tie.Need-check-requires
 check-requires c κs = search needs
@@ -101,18 +107,14 @@ enum-known-mode c = search needs
 
 returns-4 : tie.Need-returns-4
 unfolding orElse
-returns-4 c =
-    let w = c .before .before .before in
-    rw (sym (text-tells (at-check w .args .text .now)) ∙ ap text-refusal (sym (w .check .ensures) ∙ c .before .answer .given .1))
+returns-4 c = rw (text-refused (c .before .before .before) ∙ ap text-refusal (c .before .answer .given .1))
 
 returns-5 : tie.Need-returns-5
 unfolding orElse
 returns-5 c =
     let m = c .before .before in
     let f = m .before .before .before in
-    let u = f .before .before in
-    let e = sym (m .mode-named .ensures) ∙ c .enum-told .given .1 in
-    rw (text-fine u, even (f .before), few f, fitting (m .before), sym (named-tells (named u .0) (named u .1) .0) ∙ ap nameless e)
+    rw (text-fine (f .before .before), even (f .before), few f, fitting (m .before), named m .0 ∙ ap nameless (c .enum-told .given .1))
 
 returns-6 : tie.Need-returns-6
 unfolding orElse
@@ -120,10 +122,11 @@ returns-6 c =
     let m = c .before .before .before in
     let f = m .before .before .before in
     let u = f .before .before in
-    let e = sym (m .mode-named .ensures) ∙ c .before .mode .given .1 in
-    rw (text-fine u, even (f .before), few f, fitting (m .before), sym (named-tells (named u .0) (named u .1) .0) ∙ ap nameless e)
-    (ap₂ Inputs.Passed (passed (at-start u .args .text .now) (u .before .before .n .given .0 .0) (text-passed u) .count)
-    (ap (λ (told : Named). modeIn told (named u .1)) (sym e) ∙ named-tells (named u .0) (named u .1) .1))
+    let n = u .before .before .n .given in
+    let mode = c .before .mode .given .1 in
+    rw (text-fine u, even (f .before), few f, fitting (m .before), named m .0 ∙ ap nameless mode)
+    (ap₂ Inputs.Passed (passed (at-start u .args .text .now) (n .0 .0) (sym (at-passed u .check .ensures) ∙ n .1) .count)
+    (sym (ap (λ (told : Named). modeIn told (modeBy (at-start u))) mode) ∙ named m .1))
 
 pub check-inputs-spec : {M : Type 1} → statement M
 check-inputs-spec =

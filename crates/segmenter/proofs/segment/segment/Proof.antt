@@ -15,7 +15,7 @@ use Rattle.lattice.specs.Words.{given}
 use Rattle.lattice.specs.Accepted.{Accepted}
 use Rattle.checks.specs.Job.{Job, job, JobRows, jobRows, characterCount, candidateCount}
 use Rattle.checks.specs.Checks.{modeOf, shortRow, inputRefused, candidatesRefused, refused}
-use Rattle.checks.proofs.CheckLaws.{InputsPassed, inputs-passed, candidates-passed, by-inputs, by-rows, by-candidates, inputs-tell, inputs-fail, refusal, verdict-tells}
+use Rattle.checks.proofs.CheckLaws.{InputsPassed, inputs-passed, candidates-passed, by-inputs, by-rows, by-candidates, inputs-told, failure-told, refusal, verdict-told}
 use Rattle.segmenter.specs.Segment.{worked}
 use Rattle.segmenter.proofs.JobLaws.{accepted, refused-job, passed-job}
 use Rattle.segmenter.proofs.segment.segment.Statement.{statement}
@@ -54,8 +54,8 @@ mode c = c .n .given .0 .1 .0
 told : (c : tie.After-n) → (inputRefused (given-job (at-n c)) ≡ none) × (characterCount (given-job (at-n c)) ≡ n c) × (named (at-n c) ≡ mode c)
 told c =
     let s = at-n c in
-    inputs-tell (inputRefused (given-job s)) (characterCount (given-job s)) (n c) (named s) (mode c)
-    (sym (c .before .before .check-inputs .ensures) ∙ c .n .given .1)
+    inputs-told (inputRefused (given-job s)) (characterCount (given-job s)) (n c) (named s) (mode c)
+    (sym (c .n .given .1) ∙ c .before .before .check-inputs .ensures)
 
 inputs : (c : tie.After-n) → InputsPassed (given-job (at-n c))
 inputs c = inputs-passed (given-job (at-n c)) (told c .0)
@@ -80,8 +80,10 @@ verdict : (c : tie.After-check-candidates) → refusal (c .check-candidates .res
 verdict c =
     let s = at-candidates c in
     let j = given-job s in
-    ap refusal (c .check-candidates .ensures)
-    ∙ verdict-tells (candidatesRefused (n (c .before .before .before .before)) (j .start) (j .end) (j .kind) (j .entry) (j .height) (j .width))
+    sym
+    (verdict-told (candidatesRefused (n (c .before .before .before .before)) (j .start) (j .end) (j .kind) (j .entry) (j .height) (j .width))
+    (c .check-candidates .result)
+    (c .check-candidates .ensures))
     ∙ ap (λ (n : ℕ). candidatesRefused n (j .start) (j .end) (j .kind) (j .entry) (j .height) (j .width)) (sym (told (c .before .before .before .before) .1))
 
 -- so the tests before them do not hold, and they decide
@@ -148,8 +150,8 @@ returns-2 c =
     let s = at-inputs k in
     refused-job (given-job s) (came s) (w .answer .given .0 .0)
     (by-inputs (given-job s) (came s) (w .answer .given .0 .0)
-    (inputs-fail (inputRefused (given-job s)) (characterCount (given-job s)) (named s) (w .answer .given .0 .0)
-    (sym (k .check-inputs .ensures) ∙ w .answer .given .1)))
+    (failure-told (inputRefused (given-job s)) (characterCount (given-job s)) (named s) (w .answer .given .0 .0)
+    (sym (w .answer .given .1) ∙ k .check-inputs .ensures)))
 
 returns-3 : tie.Need-returns-3
 returns-3 c =
