@@ -2,3 +2,4 @@ mod WordLaws
 pub mod WorkLaws
 pub mod LinkLaws
 pub mod JobLaws
+pub mod Examples
