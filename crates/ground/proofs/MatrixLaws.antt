@@ -1,7 +1,7 @@
 -- What the lattice may lean on about the matrix: where a joint stands in it, and that a row lies within it. Assumes nothing.
 use Prim.Native.Nat.{ℕ, _+_, _*_, _≤_, _<_}
 use mathlib.Core.Path.{_≡_, refl}
-use mathlib.Core.List.{List, [], _∷_, map}
+use mathlib.Core.List.{List}
 use lib.ListN.{length, getD}
 use lib.IntN.{ℤ, pos}
 use Rattle.ground.specs.Matrix.{matrixRow, valueIn, joint}
@@ -24,9 +24,3 @@ row-length matrix width l h = part-length width l matrix h
 -- The row of a left id below the height does.
 pub row-fits : (matrix : List ℤ) (height width l : ℕ) → length matrix ≡ height * width → l < height → l * width + width ≤ length matrix
 row-fits matrix height width l e h = part-fits width l height matrix e h
-
--- Document 01's example J: of the rows [0, 5] and [9, 0], left id 1 and right id 0 give 9, left id 0 and right id 1 give 5.
-pub example-J :
-    map (λ (p : ℕ × ℕ). joint (pos 0 ∷ pos 5 ∷ pos 9 ∷ pos 0 ∷ []) 2 (p .0) (p .1)) ((1, 0) ∷ (0, 1) ∷ []) ≡ pos 9 ∷ pos 5 ∷ []
-unfolding joint
-example-J = refl

@@ -11,4 +11,3 @@ pub mod FillLaws
 pub mod SeekLaws
 pub mod GoingLaws
 pub mod StepLaws
-pub mod Examples

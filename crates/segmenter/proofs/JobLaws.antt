@@ -6,7 +6,6 @@ use mathlib.Core.List.{List, map}
 use mathlib.Core.Option.{Option, none, some, Option·some-ne-none}
 use native.Mathlib.Omega.{arith}
 use lib.ListN.{length, getD, length-map}
-use lib.IntN.{ℤ}
 use Rattle.ground.specs.Rows.{over}
 use Rattle.ground.specs.Entry.{entryAt}
 use Rattle.ground.specs.Answer.{numbersOf}

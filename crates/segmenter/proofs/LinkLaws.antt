@@ -9,10 +9,10 @@ use lib.ListN.{length, getD}
 use borrow.Author.Tests.{lt-ltb, eq-eqb}
 use Rattle.ground.specs.Entry.{noneLink}
 use Rattle.lattice.specs.Words.{Word, Given, count, candidate}
-use Rattle.lattice.specs.Lattice.{LatticeEntry, entryNumbered, lattice, mark, jointsOf}
+use Rattle.lattice.specs.Lattice.{LatticeEntry, entryNumbered, lattice, mark}
 use Rattle.lattice.specs.Rows.{lefts}
 use Rattle.lattice.specs.Accepted.{Accepted}
-use Rattle.lattice.specs.Rules.{Joins, Ruled}
+use Rattle.lattice.specs.Rules.{Joins}
 use Rattle.lattice.proofs.LatticeLaws.{lattice-length}
 use Rattle.lattice.proofs.RuleLaws.{rules}
 use Rattle.lattice.proofs.RowRules.{lefts-at}

@@ -5,9 +5,8 @@ use mathlib.Core.Logic.{_↔_}
 use mathlib.Core.Bool.{Bool, true, false, not}
 use mathlib.Core.List.{List}
 use native.Mathlib.Omega.{arith}
-use lib.ListN.{length, getD, take}
+use lib.ListN.{length, getD}
 use lib.IntN.{ℤ, pos}
-use lib.Dec.{eqb}
 use borrow.Author.Tests.{eq-eqb, ne-eqb}
 use Rattle.ground.specs.Rows.{over}
 use Rattle.ground.specs.Entry.{noneLink}
@@ -15,7 +14,7 @@ use Rattle.ground.specs.Text.{offsets, runs}
 use Rattle.ground.specs.declared.text.Letter.{Letter}
 use Rattle.ground.specs.declared.answer.Answer.{Answer}
 use Rattle.lattice.specs.Words.{Given, count}
-use Rattle.lattice.specs.Lattice.{LatticeEntry, entryNumbered, lattice}
+use Rattle.lattice.specs.Lattice.{entryNumbered, lattice}
 use Rattle.lattice.specs.Rows.{lefts, costs, rows, Filled}
 use Rattle.lattice.specs.Accepted.{Accepted}
 use Rattle.lattice.proofs.LatticeLaws.{lattice-length}

@@ -1,11 +1,10 @@
 -- The tests in their order; then the work. Assumes nothing.
 use Prim.Native.Nat.{ℕ}
 use mathlib.Core.Path.{_≡_, ap, _∙_, sym, subst}
-use mathlib.Core.Bool.{Bool, true, false}
-use mathlib.Core.Option.{Option, none, some}
+use mathlib.Core.Bool.{false}
+use mathlib.Core.Option.{Option, none}
 use borrow.Author.Needs.{needs}
 use native.Mathlib.Omega.{arith}
-use lib.ListN.{length}
 use Rattle.ground.specs.Text.{letters, runs}
 use Rattle.ground.specs.Characters.{Sound}
 use Rattle.ground.specs.declared.charge.Mode.{Mode}

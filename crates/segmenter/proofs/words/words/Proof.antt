@@ -1,14 +1,13 @@
 -- 12 by the end mark's left; otherwise the walk back's two passes. Assumes nothing.
 use Prim.Native.Nat.{ℕ, _+_, _≤_}
 use mathlib.Core.Path.{_≡_, refl, ap, ap₂, _∙_, sym, subst}
-use mathlib.Core.Bool.{Bool, true, false, not}
+use mathlib.Core.Bool.{true, not}
 use mathlib.Core.List.{List, []}
-use mathlib.Core.Option.{Option, none, some}
+use mathlib.Core.Option.{Option, some}
 use borrow.Author.Needs.{needs}
 use borrow.Author.Tests.{eq-eqb, ne-eqb}
 use native.Mathlib.Omega.{arith}
 use lib.ListN.{length, getD}
-use mir.Syntax.{w32}
 use mir.Facts.{toZ-ofZ}
 use Rattle.ground.specs.Rows.{over}
 use Rattle.ground.specs.Entry.{noneLink}
@@ -16,7 +15,7 @@ use Rattle.ground.specs.declared.answer.Answer.the-variants.{Done}
 use Rattle.walk.specs.WalkBack.{walkBack}
 use Rattle.walk.specs.Inner.{linked, Sure}
 use Rattle.walk.proofs.WalkLaws.{words-fit, walk-again, broken-found, whole-found}
-use Rattle.segmenter.specs.Segment.{answerBy, wordsBy, wordOffsets, wordIds, wordKinds}
+use Rattle.segmenter.specs.Segment.{wordOffsets, wordIds, wordKinds}
 use Rattle.segmenter.specs.Inner.{endReached}
 use Rattle.segmenter.proofs.words.words.Statement.{statement}
 use Rattle.segmenter.proofs.words.words.Tie as tie

@@ -1,9 +1,9 @@
 -- The loop's invariant is `Writing`. Assumes nothing.
-use Prim.Native.Nat.{ℕ, _+_, _-_, _*_, _≤_, _<_}
+use Prim.Native.Nat.{ℕ, _+_, _-_, _*_, _≤_}
 use mathlib.Core.Path.{_≡_, _∙_, ap, sym, subst}
 use borrow.Author.Needs.{needs}
 use native.Mathlib.Omega.{arith}
-use lib.ListN.{length, getD, set}
+use lib.ListN.{length, getD}
 use Rattle.ground.specs.Entry.{entryBytes}
 use Rattle.ground.specs.declared.entry.Entry.{Entry}
 use Rattle.segmenter.proofs.WordLaws.{Writing, Roomy, Told, told, places, writing-none, writing-more, writing-all}
