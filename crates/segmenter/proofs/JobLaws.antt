@@ -26,7 +26,8 @@ use Rattle.walk.proofs.WalkLaws.{words-fit}
 use Rattle.checks.specs.Job.{Job, JobRows, characterCount}
 use Rattle.checks.specs.Checks.{refused}
 use Rattle.checks.proofs.CheckLaws.{InputsPassed, RowsPassed, CandidatesPassed, Passed, passed, no-later}
-use Rattle.segmenter.specs.Segment.{wordsBy, Outcome, outcome, givenOf, worked, segment}
+use Rattle.walk.specs.Words.{wordsBy}
+use Rattle.segmenter.specs.Segment.{Outcome, outcome, givenOf, worked, segment}
 use Rattle.segmenter.specs.Answers.{latticeOf, endMark, SameLengths, SameWords, Answers}
 use Rattle.segmenter.proofs.LinkLaws.{whole-walk}
 

@@ -1,4 +1,3 @@
-mod WordLaws
 pub mod WorkLaws
 pub mod LinkLaws
 pub mod JobLaws

@@ -24,8 +24,9 @@ use Rattle.lattice.proofs.FillLaws.{costs-length}
 use Rattle.lattice.proofs.OverLaws.{over-at}
 use Rattle.walk.specs.WalkBack.{walkBack}
 use Rattle.checks.specs.Job.{JobRows, jobRows}
-use Rattle.segmenter.specs.Segment.{answerBy, wordsBy, wordOffsets, wordIds, wordKinds, outcome, worked}
-use Rattle.segmenter.specs.Inner.{endReached}
+use Rattle.walk.specs.Words.{answerBy, wordsBy, wordOffsets, wordIds, wordKinds}
+use Rattle.segmenter.specs.Segment.{outcome, worked}
+use Rattle.walk.specs.Inner.{endReached}
 
 -- What the last step leaves, from the offsets, the links and the end mark's cost that it was lent.
 pub record Ended (n : ℕ) (g : Given) (kind offset left : List ℕ) (cost : ℤ) (r : JobRows) (answer : Answer) (wordOffset wordId wordKind : List ℕ) : Type 0 where

@@ -2,5 +2,3 @@
 pub mod Segment
 pub mod Answers
 pub mod Examples
--- Inner, no part of document 01:
-pub mod Inner

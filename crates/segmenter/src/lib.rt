@@ -1,3 +1,2 @@
 // The whole job: the tests, then the lattice, then the words.
 pub mod segment;
-pub mod words;

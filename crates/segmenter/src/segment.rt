@@ -1,5 +1,4 @@
 // The public operation "the whole job".
-use crate::words;
 use checks::checks::Inputs;
 use checks::checks::Verdict;
 use checks::checks::check_candidates;
@@ -9,6 +8,7 @@ use ground::answer::Answer;
 use ground::charge::Mode;
 use ground::text;
 use lattice::forward;
+use walk::words;
 ghost use mathlib.Core.Path.{_≡_};
 ghost use mathlib.Core.Bool.{false};
 ghost use lib.ListN.{length};

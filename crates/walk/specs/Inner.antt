@@ -1,8 +1,12 @@
--- Inner, no part of document 01: what the two passes of the walk back leave on the way.
-use Prim.Native.Nat.{ℕ, zero, suc, _-_, _≤_, _<_}
+-- Inner, no part of document 01: what the passes of the walk back and of the words leave on the way, and what they ask.
+use Prim.Native.Nat.{ℕ, zero, suc, _+_, _-_, _*_, _≤_, _<_}
+use mathlib.Core.Path.{_≡_}
+use mathlib.Core.Bool.{Bool, not}
 use mathlib.Core.List.{List, _∷_}
 use mathlib.Core.Option.{Option, none, some}
 use lib.ListN.{length, getD}
+use lib.Dec.{eqb}
+use Rattle.ground.specs.Entry.{entryBytes, noneLink}
 use Rattle.walk.specs.declared.walk_back.Walked.{Walked}
 use Rattle.walk.specs.declared.walk_back.Walked.the-variants.{Whole, Broken}
 
@@ -22,3 +26,15 @@ unfoldable pub Sure : List ℕ → ℕ → ℕ → ℕ → Type 0
 Sure left mark zero entry = Unit
 Sure left mark (suc count) entry =
     (entry < length left) × (1 ≤ getD left entry 0) × (getD left entry 0 < mark) × Sure left mark count (getD left entry 0)
+
+-- ---- the words
+
+-- The candidate rows are even, and each start is a position of the offset row.
+pub record Listed (start kind entry offset : List ℕ) : Type 0 where
+  pub kinds : length kind ≡ length start
+  pub entries : length entry ≡ entryBytes * length start
+  pub positions : (k : ℕ) → k < length start → getD start k 0 < length offset
+
+-- The end mark is reached: it has a left.
+abbrev pub endReached : List ℕ → List ℕ → Bool
+endReached start left = not (eqb (getD left (length start + 1) 0) noneLink)

@@ -12,13 +12,13 @@ use mir.Facts.{toZ-ofZ}
 use Rattle.ground.specs.Rows.{over}
 use Rattle.ground.specs.Entry.{noneLink}
 use Rattle.ground.specs.declared.answer.Answer.the-variants.{Done}
 use Rattle.walk.specs.WalkBack.{walkBack}
 use Rattle.walk.specs.Inner.{linked, Sure}
 use Rattle.walk.proofs.WalkLaws.{words-fit, walk-again, broken-found, whole-found}
-use Rattle.segmenter.specs.Segment.{wordOffsets, wordIds, wordKinds}
-use Rattle.segmenter.specs.Inner.{endReached}
-use Rattle.segmenter.proofs.words.words.Statement.{statement}
-use Rattle.segmenter.proofs.words.words.Tie as tie
+use Rattle.walk.specs.Words.{wordOffsets, wordIds, wordKinds}
+use Rattle.walk.specs.Inner.{endReached}
+use Rattle.walk.proofs.words.words.Statement.{statement}
+use Rattle.walk.proofs.words.words.Tie as tie
 
 add-mark : tie.Need-add-mark
 add-mark c = search needs

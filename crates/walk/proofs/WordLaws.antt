@@ -7,9 +7,9 @@ use lib.ListN.{length, getD, set}
 use Rattle.ground.specs.Rows.{over}
 use Rattle.ground.specs.Entry.{entryAt, entryBytes}
 use Rattle.ground.proofs.EntryLaws.{entry-fits}
 use Rattle.walk.specs.Inner.{linked, Sure}
 use Rattle.walk.proofs.Passes.{Linking, Placed, sure-link, linking-none, linking-more, linking-all, placed-none, placed-more, placed-all}
-use Rattle.segmenter.specs.Inner.{Listed}
+use Rattle.walk.specs.Inner.{Listed}
 
 -- What is told of candidate k in each of the three rows.
 abbrev pub offsetTold : List ℕ → List ℕ → ℕ → ℕ

@@ -6,9 +6,9 @@ use native.Mathlib.Omega.{arith}
 use lib.ListN.{length, getD}
 use Rattle.ground.specs.Entry.{entryBytes}
 use Rattle.ground.specs.declared.entry.Entry.{Entry}
-use Rattle.segmenter.proofs.WordLaws.{Writing, Roomy, Told, told, places, writing-none, writing-more, writing-all}
-use Rattle.segmenter.proofs.words.write.Statement.{statement}
-use Rattle.segmenter.proofs.words.write.Tie as tie
+use Rattle.walk.proofs.WordLaws.{Writing, Roomy, Told, told, places, writing-none, writing-more, writing-all}
+use Rattle.walk.proofs.words.write.Statement.{statement}
+use Rattle.walk.proofs.words.write.Tie as tie
 
 abbrev Inv-loop : tie.InvT-loop
 Inv-loop start kind entry offset left count word-offset₀ word-id₀ word-kind₀ at₀ i₀ word-offset word-id word-kind at i =

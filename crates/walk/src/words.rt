@@ -1,18 +1,17 @@
 // The words of a job (document 01, piece 7): the answer after the forward pass, and the three word rows.
+use crate::walk_back;
+use crate::walk_back::Walked;
 use ground::answer::Answer;
 use ground::entry::Entry;
-use walk::walk_back;
-use walk::walk_back::Walked;
 ghost use mathlib.Core.Path.{_≡_};
 ghost use Prim.Native.Nat.{_+_, _≤_};
 ghost use mathlib.Core.List.{[]};
 ghost use lib.ListN.{length};
 ghost use Rattle.ground.specs.Limits.{characterLimit};
 ghost use Rattle.ground.specs.Rows.{over};
 ghost use Rattle.walk.specs.WalkBack.{walkBack};
-ghost use Rattle.walk.specs.Inner.{linked, Sure};
-ghost use Rattle.segmenter.specs.Segment.{wordOffsets, wordIds, wordKinds, wordsBy, answerBy};
-ghost use Rattle.segmenter.specs.Inner.{Listed, endReached};
+ghost use Rattle.walk.specs.Words.{wordOffsets, wordIds, wordKinds, wordsBy, answerBy};
+ghost use Rattle.walk.specs.Inner.{linked, Sure, Listed, endReached};
 
 fn wide(x: u16) -> usize
     ensures { λ r. ⌜ r ≡ x ⌝ }
