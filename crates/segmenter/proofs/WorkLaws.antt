@@ -22,18 +22,9 @@ use Rattle.lattice.proofs.RuleLaws.{left-none}
 use Rattle.lattice.proofs.RowRules.{lefts-at, costs-at}
 use Rattle.lattice.proofs.FillLaws.{costs-length}
 use Rattle.lattice.proofs.OverLaws.{over-at}
-use Rattle.walk.specs.WalkBack.{walkBack}
 use Rattle.checks.specs.Job.{JobRows, jobRows}
-use Rattle.walk.specs.Words.{answerBy, wordsBy, wordOffsets, wordIds, wordKinds}
 use Rattle.segmenter.specs.Segment.{outcome, worked}
-use Rattle.walk.specs.Inner.{endReached}
-
--- What the last step leaves, from the offsets, the links and the end mark's cost that it was lent.
-pub record Ended (n : ℕ) (g : Given) (kind offset left : List ℕ) (cost : ℤ) (r : JobRows) (answer : Answer) (wordOffset wordId wordKind : List ℕ) : Type 0 where
-  pub answers : answer ≡ answerBy (endReached (g .start) left) (walkBack (g .start) (g .end) left n) cost
-  pub offsets : wordOffset ≡ over (wordOffsets offset (g .start) (wordsBy (endReached (g .start) left) (walkBack (g .start) (g .end) left n))) (r .wordOffset)
-  pub ids : wordId ≡ over (wordIds (g .entry) (wordsBy (endReached (g .start) left) (walkBack (g .start) (g .end) left n))) (r .wordId)
-  pub kinds : wordKind ≡ over (wordKinds kind (wordsBy (endReached (g .start) left) (walkBack (g .start) (g .end) left n))) (r .wordKind)
+use Rattle.walk.specs.Inner.{endReached, Ended}
 
 module _ (n : ℕ) (g : Given) (ok : Accepted n g) where
   -- the end mark's number is one of the lattice's
@@ -70,7 +61,7 @@ module _ (ls : List Letter) (kind : List ℕ) (g : Given) (r : JobRows) (ok : Ac
   pub worked-by : (n : ℕ) (answer : Answer) (offset run first last left : List ℕ) (cost : List ℤ) (next wordOffset wordId wordKind : List ℕ) → n ≡ length ls
       → offset ≡ over (offsets ls) (r .offset) → run ≡ over (runs ls) (r .run)
       → Filled n (lattice n g) (rows (r .first) (r .last) (r .left) (r .cost) (r .next)) (rows first last left cost next)
-      → Ended n g kind (offsets ls) (lefts (lattice n g)) (getD cost (count g + 1) (pos 0)) r answer wordOffset wordId wordKind
+      → Ended n (g .start) (g .end) kind (g .entry) (offsets ls) (lefts (lattice n g)) (getD cost (count g + 1) (pos 0)) (r .wordOffset) (r .wordId) (r .wordKind) answer wordOffset wordId wordKind
       → outcome answer (jobRows offset run first last left cost next wordOffset wordId wordKind) ≡ worked ls kind g r
   unfolding worked
   worked-by n answer offset run first last left cost next wordOffset wordId wordKind long o u f e =

@@ -1,15 +1,20 @@
--- The pass that writes the words: its invariant, and what one turn does. Assumes nothing.
+-- The pass that writes the words: its invariant, and what one turn does; and what the last step leaves. Assumes nothing.
 use Prim.Native.Nat.{ℕ, _+_, _-_, _*_, _≤_, _<_}
 use mathlib.Core.Path.{_≡_, ap, _∙_}
+use mathlib.Core.Bool.{Bool}
 use mathlib.Core.List.{List, [], _∷_, map}
+use mathlib.Core.Option.{Option}
 use native.Mathlib.Omega.{arith}
 use lib.ListN.{length, getD, set}
+use lib.IntN.{ℤ}
 use Rattle.ground.specs.Rows.{over}
+use Rattle.ground.specs.declared.answer.Answer.{Answer}
 use Rattle.ground.specs.Entry.{entryAt, entryBytes}
 use Rattle.ground.proofs.EntryLaws.{entry-fits}
-use Rattle.walk.specs.Inner.{linked, Sure}
+use Rattle.walk.specs.WalkBack.{walkBack}
+use Rattle.walk.specs.Words.{wordOffsets, wordIds, wordKinds, answerBy, wordsBy}
+use Rattle.walk.specs.Inner.{linked, Sure, Listed, endReached, Ended}
 use Rattle.walk.proofs.Passes.{Linking, Placed, sure-link, linking-none, linking-more, linking-all, placed-none, placed-more, placed-all}
-use Rattle.walk.specs.Inner.{Listed}
 
 -- What is told of candidate k in each of the three rows.
 abbrev pub offsetTold : List ℕ → List ℕ → ℕ → ℕ
@@ -115,3 +120,14 @@ module _ (start kind entry offset left : List ℕ) (count : ℕ) (offset₀ id�
       all (idTold entry) id₀ wordId (room .ids) l (h .ids),
       all (kindTold kind) kind₀ wordKind (room .kinds) l (h .kinds),
     )
+
+-- what the last step leaves, by whether the end mark is reached and by what the walk found
+pub ended-by : (n : ℕ) (start end kind entry offset left : List ℕ) (cost : ℤ) (offset₀ id₀ kind₀ : List ℕ) (answer : Answer) (wordOffset wordId wordKind : List ℕ)
+    (reached : Bool) (walked : Option (List ℕ)) → endReached start left ≡ reached → walkBack start end left n ≡ walked
+    → answer ≡ answerBy reached walked cost
+    → wordOffset ≡ over (wordOffsets offset start (wordsBy reached walked)) offset₀
+    → wordId ≡ over (wordIds entry (wordsBy reached walked)) id₀
+    → wordKind ≡ over (wordKinds kind (wordsBy reached walked)) kind₀
+    → Ended n start end kind entry offset left cost offset₀ id₀ kind₀ answer wordOffset wordId wordKind
+ended-by n start end kind entry offset left cost offset₀ id₀ kind₀ answer wordOffset wordId wordKind reached walked e f a o i k =
+    record { answers = rw (e, f) a; offsets = rw (e, f) o; ids = rw (e, f) i; kinds = rw (e, f) k }

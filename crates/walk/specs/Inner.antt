@@ -6,7 +6,12 @@ use mathlib.Core.List.{List, _∷_}
 use mathlib.Core.Option.{Option, none, some}
 use lib.ListN.{length, getD}
 use lib.Dec.{eqb}
+use lib.IntN.{ℤ}
+use Rattle.ground.specs.Rows.{over}
+use Rattle.ground.specs.declared.answer.Answer.{Answer}
 use Rattle.ground.specs.Entry.{entryBytes, noneLink}
+use Rattle.walk.specs.WalkBack.{walkBack}
+use Rattle.walk.specs.Words.{wordOffsets, wordIds, wordKinds, answerBy, wordsBy}
 use Rattle.walk.specs.declared.walk_back.Walked.{Walked}
 use Rattle.walk.specs.declared.walk_back.Walked.the-variants.{Whole, Broken}
 
@@ -38,3 +43,10 @@ pub record Listed (start kind entry offset : List ℕ) : Type 0 where
 -- The end mark is reached: it has a left.
 abbrev pub endReached : List ℕ → List ℕ → Bool
 endReached start left = not (eqb (getD left (length start + 1) 0) noneLink)
+
+-- What the last step leaves: the answer, and the three word rows over what they held.
+pub record Ended (n : ℕ) (start end kind entry offset left : List ℕ) (cost : ℤ) (wordOffset wordId wordKind : List ℕ) (answer : Answer) (offsetAfter idAfter kindAfter : List ℕ) : Type 0 where
+  pub answers : answer ≡ answerBy (endReached start left) (walkBack start end left n) cost
+  pub offsets : offsetAfter ≡ over (wordOffsets offset start (wordsBy (endReached start left) (walkBack start end left n))) wordOffset
+  pub ids : idAfter ≡ over (wordIds entry (wordsBy (endReached start left) (walkBack start end left n))) wordId
+  pub kinds : kindAfter ≡ over (wordKinds kind (wordsBy (endReached start left) (walkBack start end left n))) wordKind

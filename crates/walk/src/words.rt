@@ -9,9 +9,8 @@ ghost use mathlib.Core.List.{[]};
 ghost use lib.ListN.{length};
 ghost use Rattle.ground.specs.Limits.{characterLimit};
 ghost use Rattle.ground.specs.Rows.{over};
-ghost use Rattle.walk.specs.WalkBack.{walkBack};
-ghost use Rattle.walk.specs.Words.{wordOffsets, wordIds, wordKinds, wordsBy, answerBy};
-ghost use Rattle.walk.specs.Inner.{linked, Sure, Listed, endReached};
+ghost use Rattle.walk.specs.Words.{wordOffsets, wordIds, wordKinds};
+ghost use Rattle.walk.specs.Inner.{linked, Sure, Listed, Ended};
 
 fn wide(x: u16) -> usize
     ensures { λ r. ⌜ r ≡ x ⌝ }
@@ -66,10 +65,12 @@ pub fn words(
 ) -> Answer
     requires { ⌜ Listed (now start) (now kind) (now entry) (now offset) × (length (now end) ≡ length (now start)) × (n ≤ characterLimit) ⌝ }
     requires { ⌜ (length (now start) + 2 ≤ length (now left)) × (n ≤ length (now «word_offset»)) × (n ≤ length (now «word_id»)) × (n ≤ length (now «word_kind»)) ⌝ }
-    ensures { λ r. ⌜ r ≡ answerBy (endReached (now (start .entry)) (now (left .entry))) (walkBack (now (start .entry)) (now (end .entry)) (now (left .entry)) n) cost ⌝ }
-    ensures { λ _. ⌜ now («word_offset» .exit) ≡ over (wordOffsets (now (offset .entry)) (now (start .entry)) (wordsBy (endReached (now (start .entry)) (now (left .entry))) (walkBack (now (start .entry)) (now (end .entry)) (now (left .entry)) n))) (now («word_offset» .entry)) ⌝ }
-    ensures { λ _. ⌜ now («word_id» .exit) ≡ over (wordIds (now (entry .entry)) (wordsBy (endReached (now (start .entry)) (now (left .entry))) (walkBack (now (start .entry)) (now (end .entry)) (now (left .entry)) n))) (now («word_id» .entry)) ⌝ }
-    ensures { λ _. ⌜ now («word_kind» .exit) ≡ over (wordKinds (now (kind .entry)) (wordsBy (endReached (now (start .entry)) (now (left .entry))) (walkBack (now (start .entry)) (now (end .entry)) (now (left .entry)) n))) (now («word_kind» .entry)) ⌝ }
+    ensures { λ r. ⌜
+        Ended n (now (start .entry)) (now (end .entry)) (now (kind .entry)) (now (entry .entry)) (now (offset .entry)) (now (left .entry)) cost
+        (now («word_offset» .entry)) (now («word_id» .entry)) (now («word_kind» .entry))
+        r
+        (now («word_offset» .exit)) (now («word_id» .exit)) (now («word_kind» .exit))
+        ⌝ }
 {
     let mark = start.len() + 1;
     if left[mark] == Entry::NONE {

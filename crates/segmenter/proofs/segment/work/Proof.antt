@@ -11,6 +11,7 @@ use mir.Syntax.{w32}
 use mir.Val.{toZ, ofZ}
 use Rattle.ground.specs.Text.{letters, offsets, runs}
 use Rattle.ground.specs.declared.text.Letter.{Letter}
+use Rattle.ground.specs.declared.answer.Answer.{Answer}
 use Rattle.ground.proofs.SignedLaws.{back}
 use Rattle.ground.proofs.RowLaws.{over-length, runs-length, offsets-length}
 use Rattle.lattice.specs.Words.{Given, given, count}
@@ -19,9 +20,10 @@ use Rattle.lattice.specs.Rows.{LatticeRows, rows, lefts, Filled}
 use Rattle.lattice.proofs.LatticeLaws.{lattice-length}
 use Rattle.lattice.proofs.FillLaws.{SameLengths, fill-lengths, lefts-length}
 use Rattle.lattice.specs.Accepted.{Accepted}
+use Rattle.walk.specs.Inner.{Ended}
 use Rattle.checks.specs.Job.{JobRows, jobRows}
 use Rattle.checks.proofs.CheckLaws.{RowsPassed, rows-passed}
-use Rattle.segmenter.proofs.WorkLaws.{Ended, worked-by}
+use Rattle.segmenter.proofs.WorkLaws.{worked-by}
 use Rattle.segmenter.proofs.segment.work.Statement.{statement}
 use Rattle.segmenter.proofs.segment.work.Tie as tie
 
@@ -256,6 +258,12 @@ same-length-9 c = search needs
 same-length-10 : tie.Need-same-length-10
 same-length-10 c = search needs
 
+-- what the last step leaves, by what it was lent
+abbrev ended : tie.Start → List ℕ → List ℕ → ℤ → Answer → List ℕ → List ℕ → List ℕ → Type 0
+ended s offset left cost answer =
+    let a = s .args in
+    Ended (a .n) (a .start .now) (a .end .now) (a .kind .now) (a .entry .now) offset left cost (a .word-offset .now) (a .word-id .now) (a .word-kind .now) answer
+
 returns : tie.Need-returns
 returns c =
     let w = c .before .before .before .before .before .before in
@@ -263,7 +271,6 @@ returns c =
     let f = at-forward p in
     let s = at-fill f in
     let a = s .args in
-    let e = w .words .ensures in
     let offset-row = w .words .last .1 .1 .1 .1 .1 .1 .1 .1 .0 in
     let id-row = w .words .last .1 .1 .1 .1 .1 .1 .1 .1 .1 .0 in
     let kind-row = w .words .last .1 .1 .1 .1 .1 .1 .1 .1 .1 .1 .0 in
@@ -276,13 +283,13 @@ returns c =
     (after p .first) (after p .last) (left-after p) (cost-after p) (after p .next)
     offset-row id-row kind-row
     (s .pre .0 .0 .count) (f .fill .ensures .0) (f .fill .ensures .1) (filled p)
-    (subst (λ (cost : ℤ). Ended (a .n) (told s) (a .kind .now) (offsets (ls s)) (lefts (es s)) cost (came s) (w .words .result) offset-row id-row kind-row)
+    (subst (λ (cost : ℤ). ended s (offsets (ls s)) (lefts (es s)) cost (w .words .result) offset-row id-row kind-row)
     (back w32 paid (w .before .before .before .before .words-arg3 .given))
-    (subst (λ (left : List ℕ). Ended (a .n) (told s) (a .kind .now) (offsets (ls s)) left (toZ w32 (ofZ w32 paid)) (came s) (w .words .result) offset-row id-row kind-row)
+    (subst (λ (left : List ℕ). ended s (offsets (ls s)) left (toZ w32 (ofZ w32 paid)) (w .words .result) offset-row id-row kind-row)
     (left-part p)
-    (subst (λ (offset : List ℕ). Ended (a .n) (told s) (a .kind .now) offset lent-left (toZ w32 (ofZ w32 paid)) (came s) (w .words .result) offset-row id-row kind-row)
+    (subst (λ (offset : List ℕ). ended s offset lent-left (toZ w32 (ofZ w32 paid)) (w .words .result) offset-row id-row kind-row)
     (offset-part f)
-    (record { answers = e .0; offsets = e .1 .0; ids = e .1 .1 .0; kinds = e .1 .1 .1 }))))
+    (w .words .ensures))))
 
 pub work-spec : {M : Type 1} → statement M
 work-spec =

@@ -1,22 +1,25 @@
 -- 12 by the end mark's left; otherwise the walk back's two passes. Assumes nothing.
 use Prim.Native.Nat.{ℕ, _+_, _≤_}
 use mathlib.Core.Path.{_≡_, refl, ap, ap₂, _∙_, sym, subst}
-use mathlib.Core.Bool.{true, not}
+use mathlib.Core.Bool.{true, false, not}
 use mathlib.Core.List.{List, []}
-use mathlib.Core.Option.{Option, some}
+use mathlib.Core.Option.{Option, none, some}
 use borrow.Author.Needs.{needs}
 use borrow.Author.Tests.{eq-eqb, ne-eqb}
 use native.Mathlib.Omega.{arith}
 use lib.ListN.{length, getD}
+use mir.Syntax.{w32}
+use mir.Val.{toZ, ofZ}
 use mir.Facts.{toZ-ofZ}
 use Rattle.ground.specs.Rows.{over}
 use Rattle.ground.specs.Entry.{noneLink}
-use Rattle.ground.specs.declared.answer.Answer.the-variants.{Done}
+use Rattle.ground.specs.declared.answer.Answer.the-variants.{Done, NoPath, BrokenLink}
 use Rattle.walk.specs.WalkBack.{walkBack}
 use Rattle.walk.specs.Inner.{linked, Sure}
 use Rattle.walk.proofs.WalkLaws.{words-fit, walk-again, broken-found, whole-found}
 use Rattle.walk.specs.Words.{wordOffsets, wordIds, wordKinds}
 use Rattle.walk.specs.Inner.{endReached}
+use Rattle.walk.proofs.WordLaws.{ended-by}
 use Rattle.walk.proofs.words.words.Statement.{statement}
 use Rattle.walk.proofs.words.words.Tie as tie
 
@@ -32,7 +35,11 @@ shared-slice-read-if1 c = search needs
 returns : tie.Need-returns
 returns c =
     let a = c .before .before .before .before .before .before .before .before .before .before .before .args in
-    rw (eq-eqb (getD (a .left .now) (length (a .start .now) + 1) 0) noneLink (c .if1 .taken)) (refl, (refl, (refl, refl)))
+    ended-by (a .n) (a .start .now) (a .end .now) (a .kind .now) (a .entry .now) (a .offset .now) (a .left .now) (a .cost)
+    (a .word-offset .now) (a .word-id .now) (a .word-kind .now) NoPath
+    (a .word-offset .now) (a .word-id .now) (a .word-kind .now) false (walkBack (a .start .now) (a .end .now) (a .left .now) (a .n))
+    (ap not (eq-eqb (getD (a .left .now) (length (a .start .now) + 1) 0) noneLink (c .if1 .taken)))
+    refl refl refl refl refl
 
 abbrev at-count : tie.After-count → tie.Start
 at-count c = c .before .before .before .before .before .before .before .before .before .before .before .before
@@ -94,7 +101,11 @@ cast-t27 c = omega (arith, fits (c .before .before .before .before .before .befo
 returns-2 : tie.Need-returns-2
 returns-2 c =
     let k = c .before .before in
-    rw (reached k, broken-found (walked k) (sym (k .count .ensures) ∙ c .enum-told .given .1)) (refl, (refl, (refl, refl)))
+    let a = at-count k .args in
+    ended-by (a .n) (a .start .now) (a .end .now) (a .kind .now) (a .entry .now) (a .offset .now) (a .left .now) (a .cost)
+    (a .word-offset .now) (a .word-id .now) (a .word-kind .now) BrokenLink
+    (a .word-offset .now) (a .word-id .now) (a .word-kind .now) true none (reached k)
+    (broken-found (walked k) (sym (k .count .ensures) ∙ c .enum-told .given .1)) refl refl refl refl
 
 same-length : tie.Need-same-length
 same-length c = search needs
@@ -113,16 +124,13 @@ returns-3 c =
     let s = at-count k in
     let a = s .args in
     let f = found w in
-    rw (reached k, f .1) (
-      ap₂ Done (sym (f .2)) (toZ-ofZ (s .fits .cost)),
-      (
-        e .write .ensures .0 ∙ ap (λ (words : List ℕ). over (wordOffsets (a .offset .now) (a .start .now) words) (a .word-offset .now)) (again w .1),
-        (
-          e .write .ensures .1 .0 ∙ ap (λ (words : List ℕ). over (wordIds (a .entry .now) words) (a .word-id .now)) (again w .1),
-          e .write .ensures .1 .1 ∙ ap (λ (words : List ℕ). over (wordKinds (a .kind .now) words) (a .word-kind .now)) (again w .1),
-        ),
-      ),
-    )
+    ended-by (a .n) (a .start .now) (a .end .now) (a .kind .now) (a .entry .now) (a .offset .now) (a .left .now) (a .cost)
+    (a .word-offset .now) (a .word-id .now) (a .word-kind .now) (Done (w .count2 .given .0 .0) (toZ w32 (ofZ w32 (a .cost))))
+    (e .write .last .1 .1 .1 .1 .1 .1 .0) (e .write .last .1 .1 .1 .1 .1 .1 .1 .0) (e .write .last .1 .1 .1 .1 .1 .1 .1 .1 .0) true (some (f .0)) (reached k) (f .1)
+    (ap₂ Done (sym (f .2)) (toZ-ofZ (s .fits .cost)))
+    (e .write .ensures .0 ∙ ap (λ (words : List ℕ). over (wordOffsets (a .offset .now) (a .start .now) words) (a .word-offset .now)) (again w .1))
+    (e .write .ensures .1 .0 ∙ ap (λ (words : List ℕ). over (wordIds (a .entry .now) words) (a .word-id .now)) (again w .1))
+    (e .write .ensures .1 .1 ∙ ap (λ (words : List ℕ). over (wordKinds (a .kind .now) words) (a .word-kind .now)) (again w .1))
 
 pub words-spec : {M : Type 1} → statement M
 words-spec =
