@@ -17,15 +17,21 @@ use Rattle.checks.specs.Job.{Job, JobRows, characterCount, candidateCoun
 
 -- ---- the tests
 
--- 3: candidate rows of unequal length, or entry bytes not 10 × c. (Of c starts, and of so many of the others.)
+-- 3: candidate rows of unequal length, or entry bytes not 10 × c. (c is the number of starts; the others are how many ends, kinds, extras and
+-- entry bytes there are.)
 abbrev pub uneven : ℕ → ℕ → ℕ → ℕ → ℕ → Bool
 uneven c ends kinds extras bytes =
     not (eqb ends c) || not (eqb kinds c) || not (eqb extras c) || not (eqb bytes (entryBytes * c))
 
--- 5: height or width 0 or over 65,535, or value count not height × width.
+-- 4: c over 16,384.
+abbrev pub tooMany : ℕ → Bool
+tooMany c = ltb candidateLimit c
+
+-- A height or a width that no matrix has: 0 or over 65,535.
 abbrev pub badSize : ℕ → Bool
 badSize size = eqb size 0 || ltb sizeLimit size
 
+-- 5: height or width such a one, or value count not height × width.
 abbrev pub badMatrix : ℕ → ℕ → ℕ → Bool
 badMatrix height width values = badSize height || badSize width || not (eqb values (height * width))
 
@@ -48,19 +54,19 @@ modeOf (suc more) kanjiThreshold kanjiPrice otherThreshold otherPrice =
       «other_price» = otherPrice;
     })
 
--- 7: a row to be written has fewer places than named: n + 1, c + 2, and n of the word rows. (By the lengths of the ten rows.)
+-- 7: a row to be written has fewer places than named: n + 1, c + 2, and n of the word rows. First by how many places each of the ten has.
 abbrev pub tooShort : ℕ → ℕ → ℕ → ℕ → ℕ → ℕ → ℕ → ℕ → ℕ → ℕ → ℕ → ℕ → Bool
-tooShort n c offset run first last left cost next wordOffset wordId wordKind =
-    ltb offset (n + 1)
-    || ltb run (n + 1)
-    || ltb first (n + 1)
-    || ltb last (n + 1)
-    || ltb left (c + 2)
-    || ltb cost (c + 2)
-    || ltb next (c + 2)
-    || ltb wordOffset n
-    || ltb wordId n
-    || ltb wordKind n
+tooShort n c offsets runs firsts lasts lefts costs nexts wordOffsets wordIds wordKinds =
+    ltb offsets (n + 1)
+    || ltb runs (n + 1)
+    || ltb firsts (n + 1)
+    || ltb lasts (n + 1)
+    || ltb lefts (c + 2)
+    || ltb costs (c + 2)
+    || ltb nexts (c + 2)
+    || ltb wordOffsets n
+    || ltb wordIds n
+    || ltb wordKinds n
 
 abbrev pub shortRow : ℕ → ℕ → JobRows → Bool
 shortRow n c r =
@@ -75,6 +81,10 @@ shortRow n c r =
     (length (r .wordOffset))
     (length (r .wordId))
     (length (r .wordKind))
+
+-- 8: kind over 2.
+abbrev pub badKind : ℕ → Bool
+badKind number = ltb kindLimit number
 
 -- 9: start below the previous candidate's start.
 abbrev pub belowPrevious : List ℕ → ℕ → Bool
@@ -97,23 +107,23 @@ abbrev pub inputRefused : Job → Option Answer
 inputRefused j =
     orElse (textRefused (j .text))
     (orElse (refuse (uneven (candidateCount j) (length (j .end)) (length (j .kind)) (length (j .extra)) (length (j .entry))) Uneven)
-    (orElse (refuse (ltb candidateLimit (candidateCount j)) TooMany)
+    (orElse (refuse (tooMany (candidateCount j)) TooMany)
     (orElse (refuse (badMatrix (j .height) (j .width) (length (j .matrix))) BadMatrix)
     (refuse (badMode (j .mode) (j .kanjiThreshold) (j .kanjiPrice) (j .otherThreshold) (j .otherPrice)) BadMode))))
 
 -- 8, 9, 10, 11 of candidate k, whose number is the place.
 abbrev pub candidateRefused : ℕ → List ℕ → List ℕ → List ℕ → List ℕ → ℕ → ℕ → ℕ → Option Answer
 candidateRefused n start end kind entry height width k =
-    orElse (refuse (ltb kindLimit (getD kind k 0)) (BadKind k))
+    orElse (refuse (badKind (getD kind k 0)) (BadKind k))
     (orElse (refuse (belowPrevious start k) (OutOfOrder k))
     (orElse (refuse (badSpan n (getD start k 0) (getD end k 0)) (BadSpan k))
     (refuse (badId height width entry k) (BadId k))))
 
--- The first refusal of `many` candidates from number k on.
+-- The first refusal of `many` candidates from number k on, by a test of one.
 unfoldable pub firstRefused : (ℕ → Option Answer) → ℕ → ℕ → Option Answer
 unfolding orElse
-firstRefused refused k zero = none
-firstRefused refused k (suc many) = orElse (refused k) (firstRefused refused (suc k) many)
+firstRefused test k zero = none
+firstRefused test k (suc many) = orElse (test k) (firstRefused test (suc k) many)
 
 -- 8 to 11 are tested candidate by candidate from number 0.
 abbrev pub candidatesRefused : ℕ → List ℕ → List ℕ → List ℕ → List ℕ → ℕ → ℕ → Option Answer

@@ -5,7 +5,8 @@ use lib.ListN.{length}
 use lib.IntN.{ℤ}
 use Rattle.ground.specs.Text.{letters}
 
--- A job: a text, candidates in rows, a connection matrix, and a mode with its four numbers.
+-- A job: a text, candidates in rows, a connection matrix, and a mode with its four numbers. (How wide each number is, `jumelavorp_segment` in
+-- jumelavorp's src/lib.rt says.)
 pub record Job : Type 0 where
   pub text : List ℕ
   pub start : List ℕ

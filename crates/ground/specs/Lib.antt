@@ -12,7 +12,9 @@
 --                   one of its lines, and by nothing else
 --   λ x. e          the function that gives e for x; `map f xs`: f of each element; `let x = e in b`: b, where x is e
 --   +ℤ, ≤ℤ, ltZ     sum and order of whole numbers, and < as a test; negℤ z is −z
--- In the contracts of src/, `now row` is a row's content, `.entry` before the call and `.exit` after it.
+--   /, %            quotient and remainder
+-- In the contracts of src/, `ensures { λ r. ⌜ P ⌝ }` says that every call ends and returns an r for which P holds; `requires`, where there is
+-- one, what is asked of a caller. `now row` is a row's content, `.entry` before the call and `.exit` after it.
 pub mod Limits
 pub mod Rows
 pub mod Answer

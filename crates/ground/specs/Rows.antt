@@ -8,6 +8,6 @@ abbrev pub part {ℓ} : {A : Type ℓ} → ℕ → ℕ → List A → List A
 part width k row = take width (drop (k * width) row)
 
 -- A row after a write from its start: the places beyond keep their contents. (More than the row has places would lengthen it; no call does:
--- `lengths` in CharacterLaws, `fill-lengths` in the lattice's FillLaws, `word-kept` in the walk's WalkLaws.)
+-- `lengths` in CharacterLaws and in the segmenter's Answers, `word-kept` in the walk's WalkLaws.)
 abbrev pub over {ℓ} : {A : Type ℓ} → List A → List A → List A
 over new old = new ++ drop (length new) old

@@ -99,7 +99,7 @@ unfolding leads leadRow
 letterAt [] = IllFormed
 letterAt (byte ∷ rest) = letterBy (leadRow leads byte) byte rest
 
--- ---- the text
+-- ---- the text: a list of letters. (A letter is one of document 01's characters: its length in bytes and its code point.)
 
 -- A whole character and those after it; nothing where none stands.
 abbrev pub followedBy : Decoded → (ℕ → List Letter) → List Letter

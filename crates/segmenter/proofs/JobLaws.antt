@@ -7,7 +7,7 @@ use mathlib.Core.Option.{Option, none, some, Option·some-ne-none}
 use native.Mathlib.Omega.{arith}
 use lib.ListN.{length, getD, length-map}
 use Rattle.ground.specs.Rows.{over}
-use Rattle.ground.specs.Entry.{entryAt}
+use Rattle.ground.specs.Entry.{entryAt, noneLink}
 use Rattle.ground.specs.Answer.{numbersOf}
 use Rattle.ground.specs.Text.{letters, offsets, runs}
 use Rattle.ground.specs.declared.text.Letter.{Letter}
@@ -17,18 +17,20 @@ use Rattle.ground.proofs.MatrixLaws.{row-fits}
 use Rattle.ground.proofs.RowLaws.{over-length, runs-length, offsets-length}
 use Rattle.lattice.specs.Words.{Given, count}
 use Rattle.lattice.specs.Lattice.{entryNumbered, lattice}
-use Rattle.lattice.specs.Rows.{firsts, lasts, lefts, costs, nexts}
+use Rattle.lattice.specs.Rows.{firsts, lasts, lefts, costs, nexts, Filled}
+use Rattle.lattice.proofs.RuleLaws.{rules}
+use Rattle.lattice.proofs.OverLaws.{over-at}
 use Rattle.lattice.specs.Accepted.{Accepted}
 use Rattle.lattice.proofs.LatticeLaws.{lattice-length}
 use Rattle.lattice.proofs.FillLaws.{firsts-length, lasts-length, lefts-length, costs-length, nexts-length}
 use Rattle.walk.specs.WalkBack.{walkBack}
-use Rattle.walk.proofs.WalkLaws.{words-fit}
-use Rattle.checks.specs.Job.{Job, JobRows, characterCount}
+use Rattle.walk.proofs.WalkLaws.{words-fit, same-walk-back}
+use Rattle.checks.specs.Job.{Job, JobRows, characterCount, candidateCount}
 use Rattle.checks.specs.Checks.{refused}
 use Rattle.checks.proofs.CheckLaws.{InputsPassed, RowsPassed, CandidatesPassed, Passed, passed, no-later}
-use Rattle.walk.specs.Words.{wordsBy}
+use Rattle.walk.specs.WordRows.{wordsBy}
 use Rattle.segmenter.specs.Segment.{Outcome, outcome, givenOf, worked, segment}
-use Rattle.segmenter.specs.Answers.{latticeOf, endMark, SameLengths, SameWords, Answers}
+use Rattle.segmenter.specs.Answers.{latticeOf, endMark, SameLengths, SameWords, latticeRows, Written, Answers}
 use Rattle.segmenter.proofs.LinkLaws.{whole-walk}
 
 -- the lattice accepts a job that passed its tests
@@ -84,7 +86,7 @@ module _ (ls : List Letter) (kind : List ℕ) (g : Given) (r : JobRows) where
       (omega (arith, length-map words tell, words-few (length ls) g (lefts (lattice (length ls) g)) t))
 
   -- so do all
-  pub worked-lengths : RowsPassed (length ls) (count g) r → SameLengths r (worked ls kind g r .rows)
+  worked-lengths : RowsPassed (length ls) (count g) r → SameLengths r (worked ls kind g r .rows)
   unfolding worked
   worked-lengths h =
       let n = length ls in
@@ -104,47 +106,81 @@ module _ (ls : List Letter) (kind : List ℕ) (g : Given) (r : JobRows) where
         wordKind = told-length (λ (k : ℕ). getD kind k 0) (r .wordKind) t (h .wordKind);
       }
 
-  -- an end mark that is not reached: 12, and the word rows as before
-  pub worked-none : entryNumbered (lattice (length ls) g) (suc (count g)) .reached ≡ false
-      → (worked ls kind g r .answer ≡ NoPath) × SameWords r (worked ls kind g r .rows)
-  unfolding worked
-  worked-none e = rw e (refl, record { offset = refl; id = refl; kind = refl })
-
-  -- one that is reached: 0, with the words that the walk back finds
-  pub worked-some : (found : List ℕ) → entryNumbered (lattice (length ls) g) (suc (count g)) .reached ≡ true
-      → walkBack (g .start) (g .end) (lefts (lattice (length ls) g)) (length ls) ≡ some found
-      → worked ls kind g r .answer ≡ Done (length found) (entryNumbered (lattice (length ls) g) (suc (count g)) .cost)
-  unfolding worked
-  worked-some found e f = rw (e, f)
-
 -- ---- what each answer means
 
--- how a job that passed its tests ends
-data Ends (j : Job) (r : JobRows) : Type 0 where
-  no-path : endMark j .reached ≡ false → segment j r .answer ≡ NoPath → SameWords r (segment j r .rows) → Ends j r
+-- the character and lattice rows of a job that passed its tests
+record Filling (j : Job) (r : JobRows) (o : Outcome) : Type 0 where
+  offset : o .rows .offset ≡ over (offsets (letters (j .text))) (r .offset)
+  run : o .rows .run ≡ over (runs (letters (j .text))) (r .run)
+  filled : Filled (characterCount j) (latticeOf j) (latticeRows r) (latticeRows (o .rows))
+  lengths : SameLengths r (o .rows)
+
+-- and how it ends
+data Ends (j : Job) (r : JobRows) (o : Outcome) : Type 0 where
+  no-path : endMark j .reached ≡ false → o .answer ≡ NoPath → SameWords r (o .rows) → Ends j r o
   path : (found : List ℕ) → endMark j .reached ≡ true
       → walkBack (j .start) (j .end) (lefts (latticeOf j)) (characterCount j) ≡ some found
-      → segment j r .answer ≡ Done (length found) (endMark j .cost) → Ends j r
+      → o .answer ≡ Done (length found) (endMark j .cost) → Written j found r (o .rows) → Ends j r o
 
--- how any job does: refused with nothing changed, or so
+filling : (j : Job) (r : JobRows) → RowsPassed (characterCount j) (candidateCount j) r → Filling j r (worked (letters (j .text)) (j .kind) (givenOf j) r)
+unfolding worked
+filling j r h =
+    record {
+      offset = refl;
+      run = refl;
+      filled = record { first = refl; last = refl; left = refl; cost = refl; next = refl };
+      lengths = worked-lengths (letters (j .text)) (j .kind) (givenOf j) r h;
+    }
+
+-- a word row where the end mark is not reached, and where it is
+none-told : (tell : ℕ → ℕ) (row : List ℕ) (t : Bool) (walked : Option (List ℕ)) → t ≡ false → over (map tell (wordsBy t walked)) row ≡ row
+none-told tell row t walked e = rw e
+
+found-told : (tell : ℕ → ℕ) (row : List ℕ) (t : Bool) (walked : Option (List ℕ)) (found : List ℕ) → t ≡ true → walked ≡ some found
+    → over (map tell (wordsBy t walked)) row ≡ over (map tell found) row
+found-told tell row t walked found e f = rw (e, f)
+
+ends : (j : Job) (r : JobRows) → Accepted (characterCount j) (givenOf j) → Ends j r (worked (letters (j .text)) (j .kind) (givenOf j) r)
+unfolding worked
+ends j r ok = go (endMark j .reached) refl
+  where
+    walked : Option (List ℕ)
+    walked = walkBack (j .start) (j .end) (lefts (latticeOf j)) (characterCount j)
+
+    by-offset : ℕ → ℕ
+    by-offset k = getD (offsets (letters (j .text))) (getD (j .start) k 0) 0
+
+    go : (t : Bool) → endMark j .reached ≡ t → Ends j r (worked (letters (j .text)) (j .kind) (givenOf j) r)
+    go false e =
+        no-path e (rw e)
+        (record {
+          offset = none-told by-offset (r .wordOffset) (endMark j .reached) walked e;
+          id = none-told (λ (k : ℕ). entryAt (j .entry) k .id) (r .wordId) (endMark j .reached) walked e;
+          kind = none-told (λ (k : ℕ). getD (j .kind) k 0) (r .wordKind) (endMark j .reached) walked e;
+        })
+    go true e =
+        let (found, f) = whole-walk (characterCount j) (givenOf j) ok e in
+        path found e f (rw (e, f))
+        (record {
+          offset = found-told by-offset (r .wordOffset) (endMark j .reached) walked found e f;
+          id = found-told (λ (k : ℕ). entryAt (j .entry) k .id) (r .wordId) (endMark j .reached) walked found e f;
+          kind = found-told (λ (k : ℕ). getD (j .kind) k 0) (r .wordKind) (endMark j .reached) walked found e f;
+        })
+
+-- the walk back over the left row that the job leaves is that over the links of its lattice: places beyond are not looked at
+over-left : (j : Job) (left old : List ℕ) → left ≡ over (lefts (latticeOf j)) old
+    → walkBack (j .start) (j .end) left (characterCount j) ≡ walkBack (j .start) (j .end) (lefts (latticeOf j)) (characterCount j)
+over-left j left old e =
+    ap (λ (row : List ℕ). walkBack (j .start) (j .end) row (characterCount j)) e
+    ∙ sym
+    (same-walk-back (j .start) (j .end) (lefts (latticeOf j)) (over (lefts (latticeOf j)) old)
+    (λ i h. sym (over-at (lefts (latticeOf j)) old i noneLink (omega (arith, lefts-length (latticeOf j), lattice-length (givenOf j) (characterCount j)))))
+    (characterCount j))
+
+-- any job: refused with nothing changed, or worked to one of these ends
 data Comes (j : Job) (r : JobRows) : Type 0 where
   early : (answer : Answer) → refused j r ≡ some answer → segment j r ≡ outcome answer r → Comes j r
-  late : refused j r ≡ none → SameLengths r (segment j r .rows) → Ends j r → Comes j r
-
-ends : (j : Job) (r : JobRows) → refused j r ≡ none → Ends j r
-ends j r e = go (endMark j .reached) refl
-  where
-    p : Passed j r
-    p = passed j r e
-
-    go : (t : Bool) → endMark j .reached ≡ t → Ends j r
-    go false f =
-        let w = worked-none (letters (j .text)) (j .kind) (givenOf j) r f in
-        let same = passed-job j r e in
-        no-path f (ap (λ (o : Outcome). o .answer) (sym same) ∙ w .0) (subst (λ (o : Outcome). SameWords r (o .rows)) same (w .1))
-    go true f =
-        let (found, walked) = whole-walk (characterCount j) (givenOf j) (accepted j (p .inputs) (p .candidates)) f in
-        path found f walked (ap (λ (o : Outcome). o .answer) (sym (passed-job j r e)) ∙ worked-some (letters (j .text)) (j .kind) (givenOf j) r found f walked)
+  late : refused j r ≡ none → Accepted (characterCount j) (givenOf j) → Filling j r (segment j r) → Ends j r (segment j r) → Comes j r
 
 comes : (j : Job) (r : JobRows) → Comes j r
 comes j r = go (refused j r) refl
@@ -152,13 +188,10 @@ comes j r = go (refused j r) refl
     go : (o : Option Answer) → refused j r ≡ o → Comes j r
     go (some answer) e = early answer e (sym (refused-job j r answer e))
     go none e =
-        late e
-        (subst (λ (o : Outcome). SameLengths r (o .rows)) (passed-job j r e) (worked-lengths (letters (j .text)) (j .kind) (givenOf j) r (passed j r e .rows)))
-        (ends j r e)
-
--- two answers that a job gives have one number
-one-number : (j : Job) (r : JobRows) (a b : Answer) → segment j r .answer ≡ a → segment j r .answer ≡ b → numbersOf a .number ≡ numbersOf b .number
-one-number j r a b p q = ap (λ (answer : Answer). numbersOf answer .number) (sym p ∙ q)
+        let p = passed j r e in
+        let ok = accepted j (p .inputs) (p .candidates) in
+        let same = passed-job j r e in
+        late e ok (subst (λ (o : Outcome). Filling j r o) same (filling j r (p .rows))) (subst (λ (o : Outcome). Ends j r o) same (ends j r ok))
 
 -- The statements of specs/Answers, by how the job comes out.
 pub answers : (j : Job) (r : JobRows) → Answers j r
@@ -167,43 +200,61 @@ answers j r = go (comes j r)
     passes : (answer : Answer) → refused j r ≡ none → refused j r ≡ some answer → ⊥
     passes answer e f = Option·some-ne-none answer (sym f ∙ e)
 
+    number : {answer : Answer} → segment j r .answer ≡ answer → numbersOf (segment j r .answer) .number ≡ numbersOf answer .number
+    number e = ap (λ (answer : Answer). numbersOf answer .number) e
+
     go : Comes j r → Answers j r
     go (early answer e same) =
         let here : segment j r .answer ≡ answer = ap (λ (o : Outcome). o .answer) same in
         let later = no-later j r answer e in
         record {
-          refusal = λ other f. here ∙ (let q : answer ≡ other = cc in q);
+          firstTest = λ other f. same ∙ ap (λ (a : Answer). outcome a r) (let q : answer ≡ other = cc in q);
           unchanged = λ low high. ap (λ (o : Outcome). o .rows) same;
+          rules = λ f. absurd (passes answer f e);
+          offset = λ f. absurd (passes answer f e);
+          run = λ f. absurd (passes answer f e);
+          filled = λ f. absurd (passes answer f e);
           noPath = (λ q. absurd (later .0 (sym here ∙ q)), λ h. absurd (passes answer (h .0) e));
           noWords = λ q. absurd (later .0 (sym here ∙ q));
           done = (λ d. absurd (later .2 (d .0) (d .1) (sym here ∙ d .2)), λ h. absurd (passes answer (h .0) e));
+          cost = λ count cost q. absurd (later .2 count cost (sym here ∙ q));
           words = λ count cost q. absurd (later .2 count cost (sym here ∙ q));
-          whole = λ q. later .1 (sym here ∙ q);
+          neverBroken = λ q. later .1 (sym here ∙ q);
           lengths =
               subst (λ (o : Outcome). SameLengths r (o .rows)) (sym same)
               (record { offset = refl; run = refl; first = refl; last = refl; left = refl; cost = refl; next = refl; wordOffset = refl; wordId = refl; wordKind = refl });
         }
-    go (late e long (no-path f a w)) =
+    go (late e ok f (no-path t a w)) =
         record {
-          refusal = λ answer q. absurd (passes answer e q);
-          unchanged = λ low high. absurd (omega (arith, ap (λ (answer : Answer). numbersOf answer .number) a));
-          noPath = (λ q. (e, f), λ h. a);
+          firstTest = λ answer q. absurd (passes answer e q);
+          unchanged = λ low high. absurd (omega (arith, number a));
+          rules = λ q. rules (characterCount j) (givenOf j) ok;
+          offset = λ q. f .offset;
+          run = λ q. f .run;
+          filled = λ q. f .filled;
+          noPath = (λ q. (e, t), λ h. a);
           noWords = λ q. w;
-          done = (λ d. absurd (omega (arith, one-number j r NoPath (Done (d .0) (d .1)) a (d .2))), λ h. absurd (true≢false (sym (h .1) ∙ f)));
-          words = λ count cost q. absurd (omega (arith, one-number j r NoPath (Done count cost) a q));
-          whole = λ q. omega (arith, one-number j r NoPath BrokenLink a q);
-          lengths = long;
+          done = (λ d. absurd (omega (arith, number a, number (d .2))), λ h. absurd (true≢false (sym (h .1) ∙ t)));
+          cost = λ count cost q. absurd (omega (arith, number a, number q));
+          words = λ count cost q. absurd (omega (arith, number a, number q));
+          neverBroken = λ q. omega (arith, number a, number q);
+          lengths = f .lengths;
         }
-    go (late e long (path found f walked a)) =
+    go (late e ok f (path found t walked a w)) =
         record {
-          refusal = λ answer q. absurd (passes answer e q);
-          unchanged = λ low high. absurd (omega (arith, ap (λ (answer : Answer). numbersOf answer .number) a));
-          noPath = (λ q. absurd (omega (arith, one-number j r _ NoPath a q)), λ h. absurd (true≢false (sym f ∙ h .1)));
-          noWords = λ q. absurd (omega (arith, one-number j r _ NoPath a q));
-          done = (λ d. (e, f), λ h. (length found, endMark j .cost, a));
+          firstTest = λ answer q. absurd (passes answer e q);
+          unchanged = λ low high. absurd (omega (arith, number a));
+          rules = λ q. rules (characterCount j) (givenOf j) ok;
+          offset = λ q. f .offset;
+          run = λ q. f .run;
+          filled = λ q. f .filled;
+          noPath = (λ q. absurd (omega (arith, number a, number q)), λ h. absurd (true≢false (sym t ∙ h .1)));
+          noWords = λ q. absurd (omega (arith, number a, number q));
+          done = (λ d. (e, t), λ h. (length found, endMark j .cost, a));
+          cost = λ count cost q. let same : Done count cost ≡ Done (length found) (endMark j .cost) = sym q ∙ a in cc;
           words = λ count cost q.
               let same : Done count cost ≡ Done (length found) (endMark j .cost) = sym q ∙ a in
-              (cc, (found, walked, cc));
-          whole = λ q. omega (arith, one-number j r _ BrokenLink a q);
-          lengths = long;
+              (found, over-left j (segment j r .rows .left) (r .left) (f .filled .left) ∙ walked, cc, w);
+          neverBroken = λ q. omega (arith, number a, number q);
+          lengths = f .lengths;
         }

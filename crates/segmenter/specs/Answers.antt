@@ -8,15 +8,19 @@ use mathlib.Core.List.{List}
 use mathlib.Core.Option.{none, some}
 use lib.ListN.{length}
 use lib.IntN.{ℤ}
+use Rattle.ground.specs.Rows.{over}
 use Rattle.ground.specs.Answer.{numbersOf}
+use Rattle.ground.specs.Text.{letters, offsets, runs}
 use Rattle.ground.specs.declared.answer.Answer.{Answer}
 use Rattle.ground.specs.declared.answer.Answer.the-variants.{Done, NoPath, BrokenLink}
 use Rattle.lattice.specs.Lattice.{LatticeEntry, entryNumbered, lattice}
-use Rattle.lattice.specs.Rows.{lefts}
+use Rattle.lattice.specs.Rows.{LatticeRows, rows, Filled}
+use Rattle.lattice.specs.Rules.{Rules}
 use Rattle.walk.specs.WalkBack.{walkBack}
+use Rattle.walk.specs.WordRows.{wordOffsets, wordIds, wordKinds}
 use Rattle.checks.specs.Job.{Job, JobRows, characterCount, candidateCount}
 use Rattle.checks.specs.Checks.{refused}
-use Rattle.segmenter.specs.Segment.{givenOf, segment}
+use Rattle.segmenter.specs.Segment.{outcome, givenOf, segment}
 
 -- A job's lattice, and its end mark.
 abbrev pub latticeOf : Job → List LatticeEntry
@@ -44,20 +48,37 @@ pub record SameWords (before after : JobRows) : Type 0 where
   pub id : after .wordId ≡ before .wordId
   pub kind : after .wordKind ≡ before .wordKind
 
+-- The lattice's rows among the ten.
+abbrev pub latticeRows : JobRows → LatticeRows
+latticeRows r = rows (r .first) (r .last) (r .left) (r .cost) (r .next)
+
+-- The words found stand in the word rows, over what these held.
+pub record Written (j : Job) (found : List ℕ) (before after : JobRows) : Type 0 where
+  pub offset : after .wordOffset ≡ over (wordOffsets (offsets (letters (j .text))) (j .start) found) (before .wordOffset)
+  pub id : after .wordId ≡ over (wordIds (j .entry) found) (before .wordId)
+  pub kind : after .wordKind ≡ over (wordKinds (j .kind) found) (before .wordKind)
+
 pub record Answers (j : Job) (r : JobRows) : Type 0 where
-  -- the first test that holds is the answer
-  pub refusal : (answer : Answer) → refused j r ≡ some answer → segment j r .answer ≡ answer
-  -- refusals other than 12 change nothing: those have the numbers 1 to 11
+  -- the first test that holds is the answer, and nothing changes: these are the answers 1 to 11
+  pub firstTest : (answer : Answer) → refused j r ≡ some answer → segment j r ≡ outcome answer r
   pub unchanged : 1 ≤ numbersOf (segment j r .answer) .number → numbersOf (segment j r .answer) .number ≤ 11 → segment j r .rows ≡ r
-  -- 12 exactly if the tests are passed and the end mark is not reached; the word rows keep their contents
+  -- past the tests the lattice keeps document 01's rules, over all entries, and the character and lattice rows are filled
+  pub rules : refused j r ≡ none → Rules (characterCount j) (givenOf j)
+  pub offset : refused j r ≡ none → segment j r .rows .offset ≡ over (offsets (letters (j .text))) (r .offset)
+  pub run : refused j r ≡ none → segment j r .rows .run ≡ over (runs (letters (j .text))) (r .run)
+  pub filled : refused j r ≡ none → Filled (characterCount j) (latticeOf j) (latticeRows r) (latticeRows (segment j r .rows))
+  -- 12 exactly if they are passed and the end mark is not reached; the word rows keep their contents
   pub noPath : (segment j r .answer ≡ NoPath) ↔ ((refused j r ≡ none) × (endMark j .reached ≡ false))
   pub noWords : segment j r .answer ≡ NoPath → SameWords r (segment j r .rows)
-  -- 0 exactly if they are passed and it is reached: then with as many words as the walk back finds, and the end mark's cost
+  -- 0 exactly if they are passed and it is reached: at the end mark's cost, with the words that the walk back finds over the left row
   pub done : ((count : ℕ) × (cost : ℤ) × (segment j r .answer ≡ Done count cost)) ↔ ((refused j r ≡ none) × (endMark j .reached ≡ true))
+  pub cost : (count : ℕ) (cost : ℤ) → segment j r .answer ≡ Done count cost → cost ≡ endMark j .cost
   pub words : (count : ℕ) (cost : ℤ) → segment j r .answer ≡ Done count cost
-      → (cost ≡ endMark j .cost)
-      × ((found : List ℕ) × (walkBack (j .start) (j .end) (lefts (latticeOf j)) (characterCount j) ≡ some found) × (count ≡ length found))
+      → (found : List ℕ)
+      × (walkBack (j .start) (j .end) (segment j r .rows .left) (characterCount j) ≡ some found)
+      × (count ≡ length found)
+      × Written j found r (segment j r .rows)
   -- 13 never
-  pub whole : segment j r .answer ≡ BrokenLink → ⊥
+  pub neverBroken : segment j r .answer ≡ BrokenLink → ⊥
   -- no row changes its length
   pub lengths : SameLengths r (segment j r .rows)

@@ -17,7 +17,7 @@ pub record Example : Type 0 where
   pub written : JobRows
 
 -- What a call leaves: the four numbers, and the ten rows.
-pub record Left : Type 0 where
+pub record Result : Type 0 where
   pub answer : Numbers
   pub rows : JobRows
 
@@ -29,12 +29,12 @@ abbrev pub costNines : List ℤ
 costNines = map (λ (x : ℕ). pos x) nines
 
 -- What is left by the rules, and what is wanted: behind what is written the nines stay.
-abbrev pub got : Example → Left
+abbrev pub got : Example → Result
 got e =
     let o = segment (e .asked) (jobRows nines nines nines nines nines costNines nines nines nines nines) in
     record { answer = numbersOf (o .answer); rows = o .rows }
 
-abbrev pub wanted : Example → Left
+abbrev pub wanted : Example → Result
 wanted e =
     let w = e .written in
     record {

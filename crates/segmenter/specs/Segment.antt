@@ -11,7 +11,7 @@ use Rattle.lattice.specs.Words.{Given, given, count}
 use Rattle.lattice.specs.Lattice.{entryNumbered, lattice}
 use Rattle.lattice.specs.Rows.{firsts, lasts, lefts, costs, nexts}
 use Rattle.walk.specs.WalkBack.{walkBack}
-use Rattle.walk.specs.Words.{wordOffsets, wordIds, wordKinds, answerBy, wordsBy}
+use Rattle.walk.specs.WordRows.{wordOffsets, wordIds, wordKinds, answerBy, wordsBy}
 use Rattle.checks.specs.Job.{Job, JobRows, jobRows}
 use Rattle.checks.specs.Checks.{modeOf, refused}
 
@@ -59,8 +59,8 @@ givenOf j =
 
 -- A refusal by a test changes nothing.
 abbrev pub unless : Option Answer → JobRows → Outcome → Outcome
-unless (some answer) r done = outcome answer r
-unless none r done = done
+unless (some answer) r otherwise = outcome answer r
+unless none r otherwise = otherwise
 
 -- The tests, then the work.
 unfoldable pub segment : Job → JobRows → Outcome

@@ -312,6 +312,39 @@ pub whole-found : (walked : Option (List ℕ)) (count : ℕ) → walkedOf walked
 whole-found none count e = absurd (let z : _≡_ {A = ℕ} 0 1 = cc in omega arith)
 whole-found (some found) count e = (found, refl, cc)
 
+-- ---- rows that agree
+
+-- Only the links of the start mark, the candidates and the end mark are looked at: rows that agree there give the same walk.
+module _ (start end left other : List ℕ) (agree : (i : ℕ) → i ≤ length start + 1 → getD left i noneLink ≡ getD other i noneLink) where
+  same-from : (most position number : ℕ) (found : List ℕ) → number ≤ length start + 1
+      → walkFrom start end left most position number found ≡ walkFrom start end other most position number found
+  unfolding walkFrom
+  same-from zero position number found h = refl
+  same-from (suc most) position number found h =
+      go (linkAt start end position (getD left number noneLink)) refl (λ k. same-from most (getD start k 0) (suc k) (k ∷ found))
+    where
+      go : (link : Link) → linkAt start end position (getD left number noneLink) ≡ link
+          → ((k : ℕ) → suc k ≤ length start + 1
+          → walkFrom start end left most (getD start k 0) (suc k) (k ∷ found) ≡ walkFrom start end other most (getD start k 0) (suc k) (k ∷ found))
+          → walkFrom start end left (suc most) position number found ≡ walkFrom start end other (suc most) position number found
+      go link e again =
+          step start end left most position number found link e
+          ∙ on link e again
+          ∙ sym (step start end other most position number found link (ap (λ (x : ℕ). linkAt start end position x) (sym (agree number h)) ∙ e))
+        where
+          on : (link : Link) → linkAt start end position (getD left number noneLink) ≡ link
+              → ((k : ℕ) → suc k ≤ length start + 1
+              → walkFrom start end left most (getD start k 0) (suc k) (k ∷ found) ≡ walkFrom start end other most (getD start k 0) (suc k) (k ∷ found))
+              → follow link found (λ (k : ℕ). walkFrom start end left most (getD start k 0) (suc k) (k ∷ found))
+              ≡ follow link found (λ (k : ℕ). walkFrom start end other most (getD start k 0) (suc k) (k ∷ found))
+          on ToStart e again = refl
+          on (ToCandidate k) e again = again k (omega (arith, right start end position (getD left number noneLink) k e .there))
+          on Broken e again = refl
+
+  pub same-walk-back : (n : ℕ) → walkBack start end left n ≡ walkBack start end other n
+  unfolding walkBack
+  same-walk-back n = same-from (suc n) n (suc (length start)) [] (omega arith)
+
 -- ---- examples
 
 -- Document 01's example B, its left row given; then no text; then links that are broken: to none, to the end mark, to entry 0 too early,

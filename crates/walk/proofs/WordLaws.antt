@@ -12,7 +12,7 @@ use Rattle.ground.specs.declared.answer.Answer.{Answer}
 use Rattle.ground.specs.Entry.{entryAt, entryBytes}
 use Rattle.ground.proofs.EntryLaws.{entry-fits}
 use Rattle.walk.specs.WalkBack.{walkBack}
-use Rattle.walk.specs.Words.{wordOffsets, wordIds, wordKinds, answerBy, wordsBy}
+use Rattle.walk.specs.WordRows.{wordOffsets, wordIds, wordKinds, answerBy, wordsBy}
 use Rattle.walk.specs.Inner.{linked, Sure, Listed, endReached, Ended}
 use Rattle.walk.proofs.Passes.{Linking, Placed, sure-link, linking-none, linking-more, linking-all, placed-none, placed-more, placed-all}
 

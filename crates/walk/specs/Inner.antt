@@ -11,7 +11,7 @@ use Rattle.ground.specs.Rows.{over}
 use Rattle.ground.specs.declared.answer.Answer.{Answer}
 use Rattle.ground.specs.Entry.{entryBytes, noneLink}
 use Rattle.walk.specs.WalkBack.{walkBack}
-use Rattle.walk.specs.Words.{wordOffsets, wordIds, wordKinds, answerBy, wordsBy}
+use Rattle.walk.specs.WordRows.{wordOffsets, wordIds, wordKinds, answerBy, wordsBy}
 use Rattle.walk.specs.declared.walk_back.Walked.{Walked}
 use Rattle.walk.specs.declared.walk_back.Walked.the-variants.{Whole, Broken}
 

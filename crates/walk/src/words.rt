@@ -9,7 +9,7 @@ ghost use mathlib.Core.List.{[]};
 ghost use lib.ListN.{length};
 ghost use Rattle.ground.specs.Limits.{characterLimit};
 ghost use Rattle.ground.specs.Rows.{over};
-ghost use Rattle.walk.specs.Words.{wordOffsets, wordIds, wordKinds};
+ghost use Rattle.walk.specs.WordRows.{wordOffsets, wordIds, wordKinds};
 ghost use Rattle.walk.specs.Inner.{linked, Sure, Listed, Ended};
 
 fn wide(x: u16) -> usize

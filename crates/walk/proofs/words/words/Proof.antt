@@ -17,7 +17,7 @@ use Rattle.ground.specs.declared.answer.Answer.the-variants.{Done, NoPath, Brok
 use Rattle.walk.specs.WalkBack.{walkBack}
 use Rattle.walk.specs.Inner.{linked, Sure}
 use Rattle.walk.proofs.WalkLaws.{words-fit, walk-again, broken-found, whole-found}
-use Rattle.walk.specs.Words.{wordOffsets, wordIds, wordKinds}
+use Rattle.walk.specs.WordRows.{wordOffsets, wordIds, wordKinds}
 use Rattle.walk.specs.Inner.{endReached}
 use Rattle.walk.proofs.WordLaws.{ended-by}
 use Rattle.walk.proofs.words.words.Statement.{statement}

@@ -9,7 +9,8 @@ use Rattle.ground.specs.Entry.{entryAt}
 use Rattle.ground.specs.declared.answer.Answer.{Answer}
 use Rattle.ground.specs.declared.answer.Answer.the-variants.{Done, NoPath, BrokenLink}
 
--- Of each word: the byte offset of the character at which it starts, its word id, and its kind.
+-- The words are candidates by their numbers, in sentence order. Of each: the byte offset of the character at which it starts, its word id, and
+-- its kind.
 abbrev pub wordOffsets : List ℕ → List ℕ → List ℕ → List ℕ
 wordOffsets offset start words = map (λ (k : ℕ). getD offset (getD start k 0) 0) words
 
@@ -22,7 +23,7 @@ wordKinds kind words = map (λ (k : ℕ). getD kind k 0) words
 -- ---- the answer, once the tests are passed
 
 -- 12 where the end mark is not reached; otherwise how many words the walk back finds, and the end mark's cost. (In a job no link is broken, so
--- 13 never comes: `never-broken` in JobLaws.)
+-- 13 never comes: `neverBroken` in the segmenter's Answers.)
 abbrev pub answerBy : Bool → Option (List ℕ) → ℤ → Answer
 answerBy false walked cost = NoPath
 answerBy true none cost = BrokenLink
