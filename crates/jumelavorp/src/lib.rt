@@ -9,7 +9,7 @@ ghost use Rattle.jumelavorp.specs.Promise.{Characters, Segment, WalkBack
 // The character table alone.
 #[no_mangle]
 pub extern "C" fn jumelavorp_characters(text: &[u8], offset: &mut [u32], run: &mut [u16]) -> Numbers
-    ensures { λ r. ⌜ Characters (now (text .entry)) (now (offset .entry)) (now (run .entry)) r (now (offset .exit)) (now (run .exit)) ⌝ }
+    ensures { λ numbers. ⌜ Characters (now (text .entry)) (now (offset .entry)) (now (run .entry)) numbers (now (offset .exit)) (now (run .exit)) ⌝ }
 {
     text::characters(text, offset, run).numbers()
 }
@@ -42,12 +42,19 @@ pub extern "C" fn jumelavorp_segment(
     word_id: &mut [u32],
     word_kind: &mut [u8],
 ) -> Numbers
-    ensures { λ r. ⌜
+    ensures { λ numbers. ⌜
         Segment
-        (job (now (text .entry)) (now (start .entry)) (now (end .entry)) (now (kind .entry)) (now (extra .entry)) (now (entry .entry)) height width (now (matrix .entry)) mode «kanji_threshold» «kanji_price» «other_threshold» «other_price»)
-        (jobRows (now (offset .entry)) (now (run .entry)) (now (first .entry)) (now (last .entry)) (now (left .entry)) (now (cost .entry)) (now (next .entry)) (now («word_offset» .entry)) (now («word_id» .entry)) (now («word_kind» .entry)))
-        r
-        (jobRows (now (offset .exit)) (now (run .exit)) (now (first .exit)) (now (last .exit)) (now (left .exit)) (now (cost .exit)) (now (next .exit)) (now («word_offset» .exit)) (now («word_id» .exit)) (now («word_kind» .exit)))
+        (job
+        (now (text .entry)) (now (start .entry)) (now (end .entry)) (now (kind .entry)) (now (extra .entry)) (now (entry .entry))
+        height width (now (matrix .entry))
+        mode «kanji_threshold» «kanji_price» «other_threshold» «other_price»)
+        (jobRows
+        (now (offset .entry)) (now (run .entry)) (now (first .entry)) (now (last .entry)) (now (left .entry)) (now (cost .entry)) (now (next .entry))
+        (now («word_offset» .entry)) (now («word_id» .entry)) (now («word_kind» .entry)))
+        numbers
+        (jobRows
+        (now (offset .exit)) (now (run .exit)) (now (first .exit)) (now (last .exit)) (now (left .exit)) (now (cost .exit)) (now (next .exit))
+        (now («word_offset» .exit)) (now («word_id» .exit)) (now («word_kind» .exit)))
         ⌝ }
 {
     segment::segment(
@@ -87,7 +94,7 @@ pub extern "C" fn jumelavorp_walk_back(
     n: u32,
     word: &mut [u16],
 ) -> Numbers
-    ensures { λ r. ⌜ WalkBack (now (start .entry)) (now (end .entry)) (now (left .entry)) n (now (word .entry)) r (now (word .exit)) ⌝ }
+    ensures { λ numbers. ⌜ WalkBack (now (start .entry)) (now (end .entry)) (now (left .entry)) n (now (word .entry)) numbers (now (word .exit)) ⌝ }
 {
     walk_back::walk_back(start, end, left, n, word).numbers()
 }

@@ -30,7 +30,7 @@ use Rattle.checks.specs.Checks.{refused}
 use Rattle.checks.proofs.CheckLaws.{InputsPassed, RowsPassed, CandidatesPassed, Passed, passed, no-later}
 use Rattle.walk.specs.WordRows.{wordsBy}
 use Rattle.segmenter.specs.Segment.{Outcome, outcome, givenOf, worked, segment}
-use Rattle.segmenter.specs.Answers.{latticeOf, endMark, SameLengths, SameWords, latticeRows, Written, Answers}
+use Rattle.segmenter.specs.Answers.{latticeOf, endMark, Ranged, SameLengths, SameWords, latticeRows, Written, Answers}
 use Rattle.segmenter.proofs.LinkLaws.{whole-walk}
 
 -- the lattice accepts a job that passed its tests
@@ -59,6 +59,11 @@ accepted j i c =
 pub refused-job : (j : Job) (r : JobRows) (answer : Answer) → refused j r ≡ some answer → outcome answer r ≡ segment j r
 unfolding segment
 refused-job j r answer e = rw e
+
+-- and of such a job nothing more is promised
+pub refused-leaves : (j : Job) (r : JobRows) (answer : Answer) → refused j r ≡ some answer
+    → (outcome answer r ≡ segment j r) × Ranged j r
+refused-leaves j r answer e = (refused-job j r answer e, λ q. absurd (Option·some-ne-none answer (sym e ∙ q)))
 
 -- otherwise the work
 pub passed-job : (j : Job) (r : JobRows) → refused j r ≡ none → worked (letters (j .text)) (j .kind) (givenOf j) r ≡ segment j r

@@ -16,6 +16,7 @@ use Rattle.ground.specs.declared.answer.Answer.the-variants.{Done, NoPath, Brok
 use Rattle.lattice.specs.Lattice.{LatticeEntry, entryNumbered, lattice}
 use Rattle.lattice.specs.Rows.{LatticeRows, rows, Filled}
 use Rattle.lattice.specs.Rules.{Rules}
+use Rattle.lattice.specs.Size.{AllInRange}
 use Rattle.walk.specs.WalkBack.{walkBack}
 use Rattle.walk.specs.WordRows.{wordOffsets, wordIds, wordKinds}
 use Rattle.checks.specs.Job.{Job, JobRows, characterCount, candidateCount}
@@ -28,6 +29,10 @@ latticeOf j = lattice (characterCount j) (givenOf j)
 
 abbrev pub endMark : Job → LatticeEntry
 endMark j = entryNumbered (latticeOf j) (suc (candidateCount j))
+
+-- Past the tests every stored cost lies in document 01's range. (The job's contract has it: it leans on the widths of the numbers.)
+abbrev pub Ranged : Job → JobRows → Type 0
+Ranged j r = refused j r ≡ none → AllInRange (latticeOf j)
 
 -- Each row is as long as before.
 pub record SameLengths (before after : JobRows) : Type 0 where

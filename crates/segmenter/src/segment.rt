@@ -15,10 +15,13 @@ ghost use lib.ListN.{length};
 ghost use Rattle.ground.specs.Text.{letters, runs};
 ghost use Rattle.ground.specs.Characters.{Sound};
 ghost use Rattle.lattice.specs.Words.{given};
+ghost use Rattle.lattice.specs.Lattice.{lattice};
 ghost use Rattle.lattice.specs.Accepted.{Accepted};
+ghost use Rattle.lattice.specs.Size.{AllInRange};
 ghost use Rattle.checks.specs.Job.{job, jobRows};
 ghost use Rattle.checks.specs.Checks.{shortRow};
 ghost use Rattle.segmenter.specs.Segment.{outcome, worked};
+ghost use Rattle.segmenter.specs.Answers.{Ranged};
 
 // The work of a job that passed its tests: the characters, the lattice, the words.
 fn work(
@@ -51,6 +54,7 @@ fn work(
         (given (now (start .entry)) (now (end .entry)) (now (extra .entry)) (now (entry .entry)) (runs (letters (now (text .entry)))) mode (now (matrix .entry)) width)
         (jobRows (now (offset .entry)) (now (run .entry)) (now (first .entry)) (now (last .entry)) (now (left .entry)) (now (cost .entry)) (now (next .entry)) (now («word_offset» .entry)) (now («word_id» .entry)) (now («word_kind» .entry)))
         ⌝ }
+    ensures { λ _. ⌜ AllInRange (lattice n (given (now (start .entry)) (now (end .entry)) (now (extra .entry)) (now (entry .entry)) (runs (letters (now (text .entry)))) mode (now (matrix .entry)) width)) ⌝ }
 {
     text::fill(text, n, offset, run);
     let positions = n + 1;
@@ -87,7 +91,7 @@ fn work(
     )
 }
 
-// The whole job: every test before the first write.
+// The whole job: every test before the first write. Past the tests every stored cost is in range.
 pub fn segment(
     text: &[u8],
     start: &[u16],
@@ -117,6 +121,11 @@ pub fn segment(
     ensures { λ r. ⌜
         outcome r (jobRows (now (offset .exit)) (now (run .exit)) (now (first .exit)) (now (last .exit)) (now (left .exit)) (now (cost .exit)) (now (next .exit)) (now («word_offset» .exit)) (now («word_id» .exit)) (now («word_kind» .exit)))
         ≡ Rattle.segmenter.specs.Segment.segment
+        (job (now (text .entry)) (now (start .entry)) (now (end .entry)) (now (kind .entry)) (now (extra .entry)) (now (entry .entry)) height width (now (matrix .entry)) mode «kanji_threshold» «kanji_price» «other_threshold» «other_price»)
+        (jobRows (now (offset .entry)) (now (run .entry)) (now (first .entry)) (now (last .entry)) (now (left .entry)) (now (cost .entry)) (now (next .entry)) (now («word_offset» .entry)) (now («word_id» .entry)) (now («word_kind» .entry)))
+        ⌝ }
+    ensures { λ _. ⌜
+        Ranged
         (job (now (text .entry)) (now (start .entry)) (now (end .entry)) (now (kind .entry)) (now (extra .entry)) (now (entry .entry)) height width (now (matrix .entry)) mode «kanji_threshold» «kanji_price» «other_threshold» «other_price»)
         (jobRows (now (offset .entry)) (now (run .entry)) (now (first .entry)) (now (last .entry)) (now (left .entry)) (now (cost .entry)) (now (next .entry)) (now («word_offset» .entry)) (now («word_id» .entry)) (now («word_kind» .entry)))
         ⌝ }

@@ -46,8 +46,9 @@ returns : tie.Need-returns
 returns c =
     let e = c .before .before .before .before .before .before .before .before .before .before .before .before .before .before .before .before .before .before .before .before .segment .ensures in
     record {
-      answers = c .numbers .ensures ∙ ap (λ (t : Outcome). numbersOf (t .answer)) e;
-      rows = ap (λ (t : Outcome). t .rows) e;
+      answers = c .numbers .ensures ∙ ap (λ (t : Outcome). numbersOf (t .answer)) (e .0);
+      rows = ap (λ (t : Outcome). t .rows) (e .0);
+      ranged = e .1;
     }
 
 pub jumelavorp-segment-spec : {M : Type 1} → statement M

@@ -11,12 +11,14 @@ use Rattle.ground.specs.declared.charge.Mode.{Mode}
 use Rattle.ground.specs.declared.answer.Answer.{Answer}
 use Rattle.ground.specs.declared.answer.Answer.the-variants.{ShortRow}
 use Rattle.lattice.specs.Words.{given}
+use Rattle.lattice.specs.Lattice.{lattice}
 use Rattle.lattice.specs.Accepted.{Accepted}
+use Rattle.lattice.specs.Size.{AllInRange}
 use Rattle.checks.specs.Job.{Job, job, JobRows, jobRows, characterCount, candidateCount}
 use Rattle.checks.specs.Checks.{modeOf, shortRow, inputRefused, candidatesRefused, refused}
 use Rattle.checks.proofs.CheckLaws.{InputsPassed, inputs-passed, candidates-passed, by-inputs, by-rows, by-candidates, inputs-told, failure-told, refusal, verdict-told}
-use Rattle.segmenter.specs.Segment.{worked}
-use Rattle.segmenter.proofs.JobLaws.{accepted, refused-job, passed-job}
+use Rattle.segmenter.specs.Segment.{givenOf, worked}
+use Rattle.segmenter.proofs.JobLaws.{accepted, refused-leaves, passed-job}
 use Rattle.segmenter.proofs.segment.segment.Statement.{statement}
 use Rattle.segmenter.proofs.segment.segment.Tie as tie
 
@@ -107,7 +109,7 @@ returns : tie.Need-returns
 returns c =
     let k = c .before in
     let s = at-rows k in
-    refused-job (given-job s) (came s) ShortRow (by-rows (given-job s) (came s) (told (k .before .before) .0) (sym (short k) ∙ c .if1 .taken))
+    refused-leaves (given-job s) (came s) ShortRow (by-rows (given-job s) (came s) (told (k .before .before) .0) (sym (short k) ∙ c .if1 .taken))
 
 check-candidates-requires : tie.Need-check-candidates-requires
 check-candidates-requires c κs =
@@ -147,7 +149,7 @@ returns-2 c =
     let w = c .before in
     let k = w .before .before in
     let s = at-inputs k in
-    refused-job (given-job s) (came s) (w .answer .given .0 .0)
+    refused-leaves (given-job s) (came s) (w .answer .given .0 .0)
     (by-inputs (given-job s) (came s) (w .answer .given .0 .0)
     (failure-told (inputRefused (given-job s)) (characterCount (given-job s)) (named s) (w .answer .given .0 .0)
     (sym (w .answer .given .1) ∙ k .check-inputs .ensures)))
@@ -157,7 +159,7 @@ returns-3 c =
     let w = c .before in
     let k = w .before .before in
     let s = at-candidates k in
-    refused-job (given-job s) (came s) (w .answer2 .given .0 .0) (decides k ∙ ap refusal (w .answer2 .given .1))
+    refused-leaves (given-job s) (came s) (w .answer2 .given .0 .0) (decides k ∙ ap refusal (w .answer2 .given .1))
 
 same-length : tie.Need-same-length
 same-length c = search needs
@@ -196,12 +198,19 @@ returns-4 c =
     let k = e .before .before in
     let i = k .before .before .before .before in
     let s = at-n i in
-    let a = s .args in
-    w .work .ensures
-    ∙ ap
-    (λ (mode : Mode). worked (letters (a .text .now)) (a .kind .now) (given (a .start .now) (a .end .now) (a .extra .now) (a .entry .now) (runs (letters (a .text .now))) mode (a .matrix .now) (a .width)) (came s))
-    (sym (told i .2))
-    ∙ passed-job (given-job s) (came s) (decides k ∙ ap refusal (e .enum-told .given .1))
+    let a = s .args in (
+      w .work .ensures .0
+          ∙ ap
+          (λ (mode : Mode). worked (letters (a .text .now)) (a .kind .now) (given (a .start .now) (a .end .now) (a .extra .now) (a .entry .now) (runs (letters (a .text .now))) mode (a .matrix .now) (a .width)) (came s))
+          (sym (told i .2))
+          ∙ passed-job (given-job s) (came s) (decides k ∙ ap refusal (e .enum-told .given .1)),
+      λ q.
+          subst (λ (n : ℕ). AllInRange (lattice n (givenOf (given-job s)))) (sym (told i .1))
+          (subst
+          (λ (mode : Mode). AllInRange (lattice (n i) (given (a .start .now) (a .end .now) (a .extra .now) (a .entry .now) (runs (letters (a .text .now))) mode (a .matrix .now) (a .width))))
+          (sym (told i .2))
+          (w .work .ensures .1)),
+    )
 
 pub segment-spec : {M : Type 1} → statement M
 segment-spec =

@@ -20,6 +20,7 @@ use Rattle.lattice.specs.Rows.{LatticeRows, rows, lefts, Filled}
 use Rattle.lattice.proofs.LatticeLaws.{lattice-length}
 use Rattle.lattice.proofs.FillLaws.{SameLengths, fill-lengths, lefts-length}
 use Rattle.lattice.specs.Accepted.{Accepted}
+use Rattle.lattice.specs.Size.{AllInRange}
 use Rattle.walk.specs.Inner.{Ended}
 use Rattle.checks.specs.Job.{JobRows, jobRows}
 use Rattle.checks.proofs.CheckLaws.{RowsPassed, rows-passed}
@@ -275,21 +276,26 @@ returns c =
     let id-row = w .words .last .1 .1 .1 .1 .1 .1 .1 .1 .1 .0 in
     let kind-row = w .words .last .1 .1 .1 .1 .1 .1 .1 .1 .1 .1 .0 in
     let paid = getD (cost-after p) (length (a .start .now) + 1) (pos 0) in
-    let lent-left = take (length (a .start .now) + 1 + 1 - 0) (left-after p) in
-    worked-by (ls s) (a .kind .now) (told s) (came s)
-    (subst (λ (n : ℕ). Accepted n (told s)) (s .pre .0 .0 .count) (s .pre .0 .1))
-    (a .n) (w .words .result)
-    (offset-after f) (run-after f)
-    (after p .first) (after p .last) (left-after p) (cost-after p) (after p .next)
-    offset-row id-row kind-row
-    (s .pre .0 .0 .count) (f .fill .ensures .0) (f .fill .ensures .1) (filled p)
-    (subst (λ (cost : ℤ). ended s (offsets (ls s)) (lefts (es s)) cost (w .words .result) offset-row id-row kind-row)
-    (back w32 paid (w .before .before .before .before .words-arg3 .given))
-    (subst (λ (left : List ℕ). ended s (offsets (ls s)) left (toZ w32 (ofZ w32 paid)) (w .words .result) offset-row id-row kind-row)
-    (left-part p)
-    (subst (λ (offset : List ℕ). ended s offset lent-left (toZ w32 (ofZ w32 paid)) (w .words .result) offset-row id-row kind-row)
-    (offset-part f)
-    (w .words .ensures))))
+    let lent-left = take (length (a .start .now) + 1 + 1 - 0) (left-after p) in (
+      worked-by (ls s) (a .kind .now) (told s) (came s)
+          (subst (λ (n : ℕ). Accepted n (told s)) (s .pre .0 .0 .count) (s .pre .0 .1))
+          (a .n) (w .words .result)
+          (offset-after f) (run-after f)
+          (after p .first) (after p .last) (left-after p) (cost-after p) (after p .next)
+          offset-row id-row kind-row
+          (s .pre .0 .0 .count) (f .fill .ensures .0) (f .fill .ensures .1) (filled p)
+          (subst (λ (cost : ℤ). ended s (offsets (ls s)) (lefts (es s)) cost (w .words .result) offset-row id-row kind-row)
+          (back w32 paid (w .before .before .before .before .words-arg3 .given))
+          (subst (λ (left : List ℕ). ended s (offsets (ls s)) left (toZ w32 (ofZ w32 paid)) (w .words .result) offset-row id-row kind-row)
+          (left-part p)
+          (subst (λ (offset : List ℕ). ended s offset lent-left (toZ w32 (ofZ w32 paid)) (w .words .result) offset-row id-row kind-row)
+          (offset-part f)
+          (w .words .ensures)))),
+      subst
+          (λ (run : List ℕ). AllInRange (lattice (a .n) (given (a .start .now) (a .end .now) (a .extra .now) (a .entry .now) run (a .mode) (a .matrix .now) (a .width))))
+          (run-part f)
+          (p .forward-pass .ensures .1),
+    )
 
 pub work-spec : {M : Type 1} → statement M
 work-spec =
