@@ -14,7 +14,7 @@ extern "C" {
  *  - each pointer is non-null and aligned for its type, also where its
  *    length is 0;
  *  - each pointer covers its length, which counts places and not bytes;
- *  - no row that is written overlaps another row or the text.
+ *  - no row that is written overlaps anything else that is handed over.
  * Nothing else is asked: every content and every length has its answer.
  */
 
@@ -23,8 +23,9 @@ typedef struct {
     uint32_t number; /* 0: done; any other number: refused, and why */
     uint32_t place;  /* where the refusal lies, if its number has a place; else 0 */
     uint32_t count;  /* how many were found: characters or words */
-    int32_t cost;    /* what the words cost, in the whole job; 0 in the two
-                        functions that do a part of it alone */
+    int32_t cost;    /* in the whole job the end mark's cost: words, joints
+                        and charges; 0 in the two functions that do a part of
+                        it alone */
 } jumelavorp_answer;
 
 /*
@@ -106,7 +107,7 @@ jumelavorp_answer jumelavorp_characters(
  *   11  a candidate's left id is not below height, or its right id not below
  *       width
  *   12  no path: nothing reached ends at n
- *   0   done; count is the number of words, cost what they cost
+ *   0   done; count is the number of words, cost the end mark's cost
  * 8 to 11 are tested candidate by candidate from number 0, in that order within
  * one, and place is the candidate's number. Place is 0 in all others but 1.
  * Answers 1 to 11 change no place of any row. Answer 12 fills offset, run,

@@ -13,12 +13,12 @@ use ground::text::Checked;
 ghost use mathlib.Core.Path.{_≡_};
 ghost use Prim.Native.Nat.{_+_, _*_, _≤_, _<_};
 ghost use lib.ListN.{length};
-ghost use lib.Dec.{ltb};
-ghost use Rattle.ground.specs.Limits.{characterLimit, candidateLimit, kindLimit};
+ghost use Rattle.ground.specs.Limits.{characterLimit, candidateLimit};
 ghost use Rattle.ground.specs.Entry.{entryBytes};
 ghost use Rattle.ground.specs.Text.{letters};
 ghost use Rattle.checks.specs.Job.{job};
-ghost use Rattle.checks.specs.Checks.{badSize, badMatrix, tooShort, badMode, modeOf, belowPrevious, badSpan, badId, candidateRefused, candidatesRefused, inputRefused};
+ghost use Rattle.checks.specs.Checks.{badSize, badMatrix, badMode, modeOf, inputRefused};
+ghost use Rattle.checks.specs.Checks.{tooShort, badKind, belowPrevious, badSpan, badId, candidateRefused, candidatesRefused};
 ghost use Rattle.checks.specs.Inner.{verdictOf, namedBy, inputsBy};
 
 // What tests tell: none holds, or the answer of the first that does.
@@ -89,7 +89,12 @@ fn mode_named(
     other_threshold: u32,
     other_price: u32,
 ) -> Named
-    ensures { λ r. ⌜ r ≡ namedBy (badMode mode «kanji_threshold» «kanji_price» «other_threshold» «other_price») (modeOf mode «kanji_threshold» «kanji_price» «other_threshold» «other_price») ⌝ }
+    ensures { λ r. ⌜
+        r
+        ≡ namedBy
+        (badMode mode «kanji_threshold» «kanji_price» «other_threshold» «other_price»)
+        (modeOf mode «kanji_threshold» «kanji_price» «other_threshold» «other_price»)
+        ⌝ }
 {
     if mode == 0 {
         return Named::Known(Mode::Normal);
@@ -137,7 +142,11 @@ pub fn check_inputs(
     ensures { λ r. ⌜
         r
         ≡ inputsBy
-        (inputRefused (job (now (text .entry)) (now (start .entry)) (now (end .entry)) (now (kind .entry)) (now (extra .entry)) (now (entry .entry)) height width (now (matrix .entry)) mode «kanji_threshold» «kanji_price» «other_threshold» «other_price»))
+        (inputRefused
+        (job
+        (now (text .entry)) (now (start .entry)) (now (end .entry)) (now (kind .entry)) (now (extra .entry)) (now (entry .entry))
+        height width (now (matrix .entry))
+        mode «kanji_threshold» «kanji_price» «other_threshold» «other_price»))
         (length (letters (now (text .entry))))
         (modeOf mode «kanji_threshold» «kanji_price» «other_threshold» «other_price»)
         ⌝ }
@@ -220,7 +229,7 @@ pub fn short_row(
 
 // Test 8: no kind has this number.
 fn bad_kind(number: u8) -> bool
-    ensures { λ r. ⌜ r ≡ ltb kindLimit number ⌝ }
+    ensures { λ r. ⌜ r ≡ badKind number ⌝ }
 {
     match Kind::of(number) {
         Kind::System => false,
@@ -274,7 +283,10 @@ fn check_candidate(
     width: u32,
     k: usize,
 ) -> Verdict
-    requires { ⌜ (k < length (now start)) × (k < length (now end)) × (k < length (now kind)) × (k * entryBytes + entryBytes ≤ length (now entry)) × (k ≤ candidateLimit) ⌝ }
+    requires { ⌜
+        (k < length (now start)) × (k < length (now end)) × (k < length (now kind))
+        × (k * entryBytes + entryBytes ≤ length (now entry)) × (k ≤ candidateLimit)
+        ⌝ }
     ensures { λ r. ⌜ r ≡ verdictOf (candidateRefused n (now (start .entry)) (now (end .entry)) (now (kind .entry)) (now (entry .entry)) height width k) ⌝ }
 {
     let place = k as u32;
@@ -303,7 +315,10 @@ pub fn check_candidates(
     height: u32,
     width: u32,
 ) -> Verdict
-    requires { ⌜ (length (now end) ≡ length (now start)) × (length (now kind) ≡ length (now start)) × (length (now entry) ≡ entryBytes * length (now start)) × (length (now start) ≤ candidateLimit) ⌝ }
+    requires { ⌜
+        (length (now end) ≡ length (now start)) × (length (now kind) ≡ length (now start))
+        × (length (now entry) ≡ entryBytes * length (now start)) × (length (now start) ≤ candidateLimit)
+        ⌝ }
     ensures { λ r. ⌜ r ≡ verdictOf (candidatesRefused n (now (start .entry)) (now (end .entry)) (now (kind .entry)) (now (entry .entry)) height width) ⌝ }
 {
     let mut k = 0;

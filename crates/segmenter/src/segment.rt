@@ -46,15 +46,33 @@ fn work(
     word_id: &mut [u32],
     word_kind: &mut [u8],
 ) -> Answer
-    requires { ⌜ Sound (now text) n × Accepted n (given (now start) (now end) (now extra) (now entry) (runs (letters (now text))) mode (now matrix) width) × (length (now kind) ≡ length (now start)) ⌝ }
-    requires { ⌜ shortRow n (length (now start)) (jobRows (now offset) (now run) (now first) (now last) (now left) (now cost) (now next) (now «word_offset») (now «word_id») (now «word_kind»)) ≡ false ⌝ }
+    requires { ⌜
+        Sound (now text) n
+        × Accepted n (given (now start) (now end) (now extra) (now entry) (runs (letters (now text))) mode (now matrix) width)
+        × (length (now kind) ≡ length (now start))
+        ⌝ }
+    requires { ⌜
+        shortRow n (length (now start))
+        (jobRows
+        (now offset) (now run) (now first) (now last) (now left) (now cost) (now next)
+        (now «word_offset») (now «word_id») (now «word_kind»))
+        ≡ false
+        ⌝ }
     ensures { λ r. ⌜
-        outcome r (jobRows (now (offset .exit)) (now (run .exit)) (now (first .exit)) (now (last .exit)) (now (left .exit)) (now (cost .exit)) (now (next .exit)) (now («word_offset» .exit)) (now («word_id» .exit)) (now («word_kind» .exit)))
+        outcome r (jobRows
+        (now (offset .exit)) (now (run .exit)) (now (first .exit)) (now (last .exit)) (now (left .exit)) (now (cost .exit)) (now (next .exit))
+        (now («word_offset» .exit)) (now («word_id» .exit)) (now («word_kind» .exit)))
         ≡ worked (letters (now (text .entry))) (now (kind .entry))
         (given (now (start .entry)) (now (end .entry)) (now (extra .entry)) (now (entry .entry)) (runs (letters (now (text .entry)))) mode (now (matrix .entry)) width)
-        (jobRows (now (offset .entry)) (now (run .entry)) (now (first .entry)) (now (last .entry)) (now (left .entry)) (now (cost .entry)) (now (next .entry)) (now («word_offset» .entry)) (now («word_id» .entry)) (now («word_kind» .entry)))
+        (jobRows
+        (now (offset .entry)) (now (run .entry)) (now (first .entry)) (now (last .entry)) (now (left .entry)) (now (cost .entry)) (now (next .entry))
+        (now («word_offset» .entry)) (now («word_id» .entry)) (now («word_kind» .entry)))
         ⌝ }
-    ensures { λ _. ⌜ AllInRange (lattice n (given (now (start .entry)) (now (end .entry)) (now (extra .entry)) (now (entry .entry)) (runs (letters (now (text .entry)))) mode (now (matrix .entry)) width)) ⌝ }
+    ensures { λ _. ⌜
+        AllInRange
+        (lattice n
+        (given (now (start .entry)) (now (end .entry)) (now (extra .entry)) (now (entry .entry)) (runs (letters (now (text .entry)))) mode (now (matrix .entry)) width))
+        ⌝ }
 {
     text::fill(text, n, offset, run);
     let positions = n + 1;
@@ -119,15 +137,27 @@ pub fn segment(
     word_kind: &mut [u8],
 ) -> Answer
     ensures { λ r. ⌜
-        outcome r (jobRows (now (offset .exit)) (now (run .exit)) (now (first .exit)) (now (last .exit)) (now (left .exit)) (now (cost .exit)) (now (next .exit)) (now («word_offset» .exit)) (now («word_id» .exit)) (now («word_kind» .exit)))
+        outcome r (jobRows
+        (now (offset .exit)) (now (run .exit)) (now (first .exit)) (now (last .exit)) (now (left .exit)) (now (cost .exit)) (now (next .exit))
+        (now («word_offset» .exit)) (now («word_id» .exit)) (now («word_kind» .exit)))
         ≡ Rattle.segmenter.specs.Segment.segment
-        (job (now (text .entry)) (now (start .entry)) (now (end .entry)) (now (kind .entry)) (now (extra .entry)) (now (entry .entry)) height width (now (matrix .entry)) mode «kanji_threshold» «kanji_price» «other_threshold» «other_price»)
-        (jobRows (now (offset .entry)) (now (run .entry)) (now (first .entry)) (now (last .entry)) (now (left .entry)) (now (cost .entry)) (now (next .entry)) (now («word_offset» .entry)) (now («word_id» .entry)) (now («word_kind» .entry)))
+        (job
+        (now (text .entry)) (now (start .entry)) (now (end .entry)) (now (kind .entry)) (now (extra .entry)) (now (entry .entry))
+        height width (now (matrix .entry))
+        mode «kanji_threshold» «kanji_price» «other_threshold» «other_price»)
+        (jobRows
+        (now (offset .entry)) (now (run .entry)) (now (first .entry)) (now (last .entry)) (now (left .entry)) (now (cost .entry)) (now (next .entry))
+        (now («word_offset» .entry)) (now («word_id» .entry)) (now («word_kind» .entry)))
         ⌝ }
     ensures { λ _. ⌜
         Ranged
-        (job (now (text .entry)) (now (start .entry)) (now (end .entry)) (now (kind .entry)) (now (extra .entry)) (now (entry .entry)) height width (now (matrix .entry)) mode «kanji_threshold» «kanji_price» «other_threshold» «other_price»)
-        (jobRows (now (offset .entry)) (now (run .entry)) (now (first .entry)) (now (last .entry)) (now (left .entry)) (now (cost .entry)) (now (next .entry)) (now («word_offset» .entry)) (now («word_id» .entry)) (now («word_kind» .entry)))
+        (job
+        (now (text .entry)) (now (start .entry)) (now (end .entry)) (now (kind .entry)) (now (extra .entry)) (now (entry .entry))
+        height width (now (matrix .entry))
+        mode «kanji_threshold» «kanji_price» «other_threshold» «other_price»)
+        (jobRows
+        (now (offset .entry)) (now (run .entry)) (now (first .entry)) (now (last .entry)) (now (left .entry)) (now (cost .entry)) (now (next .entry))
+        (now («word_offset» .entry)) (now («word_id» .entry)) (now («word_kind» .entry)))
         ⌝ }
 {
     match check_inputs(

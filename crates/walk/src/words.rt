@@ -31,10 +31,25 @@ fn write(
     word_kind: &mut [u8],
 )
     requires { ⌜ Listed (now start) (now kind) (now entry) (now offset) × Sure (now left) (length (now start) + 1) count (length (now start) + 1) ⌝ }
-    requires { ⌜ (count ≤ length (now «word_offset»)) × (count ≤ length (now «word_id»)) × (count ≤ length (now «word_kind»)) × (length (now start) + 1 ≤ length (now left)) ⌝ }
-    ensures { λ _. ⌜ now («word_offset» .exit) ≡ over (wordOffsets (now (offset .entry)) (now (start .entry)) (linked (now (left .entry)) count (length (now (start .entry)) + 1) [])) (now («word_offset» .entry)) ⌝ }
-    ensures { λ _. ⌜ now («word_id» .exit) ≡ over (wordIds (now (entry .entry)) (linked (now (left .entry)) count (length (now (start .entry)) + 1) [])) (now («word_id» .entry)) ⌝ }
-    ensures { λ _. ⌜ now («word_kind» .exit) ≡ over (wordKinds (now (kind .entry)) (linked (now (left .entry)) count (length (now (start .entry)) + 1) [])) (now («word_kind» .entry)) ⌝ }
+    requires { ⌜
+        (count ≤ length (now «word_offset»)) × (count ≤ length (now «word_id»)) × (count ≤ length (now «word_kind»))
+        × (length (now start) + 1 ≤ length (now left))
+        ⌝ }
+    ensures { λ _. ⌜
+        now («word_offset» .exit)
+        ≡ over (wordOffsets (now (offset .entry)) (now (start .entry)) (linked (now (left .entry)) count (length (now (start .entry)) + 1) []))
+        (now («word_offset» .entry))
+        ⌝ }
+    ensures { λ _. ⌜
+        now («word_id» .exit)
+        ≡ over (wordIds (now (entry .entry)) (linked (now (left .entry)) count (length (now (start .entry)) + 1) []))
+        (now («word_id» .entry))
+        ⌝ }
+    ensures { λ _. ⌜
+        now («word_kind» .exit)
+        ≡ over (wordKinds (now (kind .entry)) (linked (now (left .entry)) count (length (now (start .entry)) + 1) []))
+        (now («word_kind» .entry))
+        ⌝ }
 {
     let mut at = start.len() + 1;
     let mut i = count;
@@ -64,7 +79,10 @@ pub fn words(
     word_kind: &mut [u8],
 ) -> Answer
     requires { ⌜ Listed (now start) (now kind) (now entry) (now offset) × (length (now end) ≡ length (now start)) × (n ≤ characterLimit) ⌝ }
-    requires { ⌜ (length (now start) + 2 ≤ length (now left)) × (n ≤ length (now «word_offset»)) × (n ≤ length (now «word_id»)) × (n ≤ length (now «word_kind»)) ⌝ }
+    requires { ⌜
+        (length (now start) + 2 ≤ length (now left))
+        × (n ≤ length (now «word_offset»)) × (n ≤ length (now «word_id»)) × (n ≤ length (now «word_kind»))
+        ⌝ }
     ensures { λ r. ⌜
         Ended n (now (start .entry)) (now (end .entry)) (now (kind .entry)) (now (entry .entry)) (now (offset .entry)) (now (left .entry)) cost
         (now («word_offset» .entry)) (now («word_id» .entry)) (now («word_kind» .entry))
