@@ -61,6 +61,18 @@ impl Job {
         job
     }
 
+    /// Document 01's example B.
+    pub fn example_b() -> Job {
+        let candidates = [
+            (0, 1, 300),
+            (0, 2, 100),
+            (1, 2, 200),
+            (1, 3, 150),
+            (2, 3, 120),
+        ];
+        Job::of("東京都".as_bytes(), &candidates)
+    }
+
     /// The same job in Decompose.
     pub fn decompose(mut self, [k, p, o, q]: [u32; 4]) -> Job {
         self.mode = 1;

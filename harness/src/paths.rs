@@ -46,14 +46,7 @@ mod tests {
             assert_eq!(found, due);
         };
         held(&Job::new(b"").matrix(1, 1, &[7]), &[7]);
-        let candidates = [
-            (0, 1, 300),
-            (0, 2, 100),
-            (1, 2, 200),
-            (1, 3, 150),
-            (2, 3, 120),
-        ];
-        let b = Job::of("東京都".as_bytes(), &candidates);
+        let b = Job::example_b();
         held(&b, &[220, 450, 620]);
         held(&b.decompose([1, 500, 7, 0]), &[620, 720, 950]);
         held(&Job::of(b"ab", &[(0, 1, 0)]), &[]);

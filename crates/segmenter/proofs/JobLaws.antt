@@ -12,7 +12,7 @@ use Rattle.ground.specs.Answer.{numbersOf}
 use Rattle.ground.specs.Text.{letters, offsets, runs}
 use Rattle.ground.specs.declared.text.Letter.{Letter}
 use Rattle.ground.specs.declared.answer.Answer.{Answer}
-use Rattle.ground.specs.declared.answer.Answer.the-variants.{Done, NoPath, BrokenLink}
+use Rattle.ground.specs.declared.answer.Answer.the-variants.{Done, NoPath}
 use Rattle.ground.proofs.MatrixLaws.{row-fits}
 use Rattle.ground.proofs.RowLaws.{over-length, runs-length, offsets-length}
 use Rattle.lattice.specs.Words.{Given, count}
@@ -27,7 +27,7 @@ use Rattle.walk.specs.WalkBack.{walkBack}
 use Rattle.walk.proofs.WalkLaws.{words-fit, same-walk-back}
 use Rattle.checks.specs.Job.{Job, JobRows, characterCount, candidateCount}
 use Rattle.checks.specs.Checks.{refused}
-use Rattle.checks.proofs.CheckLaws.{InputsPassed, RowsPassed, CandidatesPassed, Passed, passed, no-later}
+use Rattle.checks.proofs.CheckLaws.{InputsPassed, RowsPassed, CandidatesPassed, passed, no-later}
 use Rattle.walk.specs.WordRows.{wordsBy}
 use Rattle.segmenter.specs.Segment.{Outcome, outcome, givenOf, worked, segment}
 use Rattle.segmenter.specs.Answers.{latticeOf, endMark, Ranged, SameLengths, SameWords, latticeRows, Written, Answers}

@@ -347,14 +347,7 @@ mod tests {
         let entries: [&[i32]; 3] = [&[N, 0], &[0, 7], &[1, N]];
         held(&a, Answer::done(0, 7), entries, [&[0], &[1]], &[]);
 
-        let candidates = [
-            (0, 1, 300),
-            (0, 2, 100),
-            (1, 2, 200),
-            (1, 3, 150),
-            (2, 3, 120),
-        ];
-        let b = Job::of("東京都".as_bytes(), &candidates);
+        let b = Job::example_b();
         let next = [N, N, 3, N, 5, 6, N];
         let left = [N, 0, 0, 1, 1, 2, 5];
         let cost = [0, 300, 100, 500, 450, 220, 220];

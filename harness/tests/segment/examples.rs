@@ -7,20 +7,6 @@ use harness::library::Answer;
 use harness::model::segment::Written;
 use harness::model::NONE;
 
-const TOKYO: [u8; 9] = [0xE6, 0x9D, 0xB1, 0xE4, 0xBA, 0xAC, 0xE9, 0x83, 0xBD];
-
-/// Example B.
-fn b() -> Job {
-    let candidates = [
-        (0, 1, 300),
-        (0, 2, 100),
-        (1, 2, 200),
-        (1, 3, 150),
-        (2, 3, 120),
-    ];
-    Job::of(&TOKYO, &candidates)
-}
-
 // A, B and C with every row.
 #[test]
 fn a_b_and_c() {
@@ -50,7 +36,7 @@ fn a_b_and_c() {
         word_id: vec![1_001, 1_004],
         word_kind: vec![0, 0],
     };
-    fills(&mut check, &b(), Answer::done(2, 220), &of_b);
+    fills(&mut check, &Job::example_b(), Answer::done(2, 220), &of_b);
 
     let of_c = Written {
         left: vec![NONE, 0, 0, 1, 1, 3, 5],
@@ -60,7 +46,7 @@ fn a_b_and_c() {
         word_kind: vec![0, 0, 0],
         ..of_b
     };
-    let c = b().decompose([1, 500, 7, 0]);
+    let c = Job::example_b().decompose([1, 500, 7, 0]);
     fills(&mut check, &c, Answer::done(3, 620), &of_c);
     assert_eq!(check.cases(), 3);
 }
@@ -69,7 +55,7 @@ fn a_b_and_c() {
 #[test]
 fn kinds_and_ids_of_the_words() {
     let mut check = Check::new(81);
-    let mut job = b();
+    let mut job = Job::example_b();
     job.kind = vec![1, 2, 0, 1, 1];
     let ids = [0xFFFF_FFFF, 0x0102_0304, 0, 0x8000_0000, 0xF0E1_D2C3_u32];
     for (k, id) in ids.into_iter().enumerate() {
@@ -86,7 +72,7 @@ fn kinds_and_ids_of_the_words() {
 fn extras() {
     let mut check = Check::new(79);
     let with = |extra| {
-        let mut job = b();
+        let mut job = Job::example_b();
         job.extra[1] = extra;
         job
     };
@@ -211,7 +197,7 @@ fn k_both_sides() {
     let more = Job::of(&[b'a'; 4_097], &[(0, 4_096, 6)]);
     assert_eq!(check.job(&more), refused(2));
 
-    let priced = |price| Job::of(&TOKYO, &[(0, 3, 0)]).decompose([1, price, 0, 0]);
+    let priced = |price| Job::of("東京都".as_bytes(), &[(0, 3, 0)]).decompose([1, price, 0, 0]);
     gives(&mut check, &priced(32_767), 2 * 32_767, &[0]);
     assert_eq!(check.job(&priced(32_768)), refused(6));
     assert_eq!(check.cases(), 6);
@@ -228,7 +214,7 @@ fn l_and_m_bad_text() {
     gives(&mut check, &last, 3, &[0]);
     assert_eq!(check.written().offset[..2], [0, 4]);
 
-    let mut m = b();
+    let mut m = Job::example_b();
     m.text.push(0x80);
     m.end.pop();
     assert_eq!(check.job(&m), bad_at(9));
