@@ -19,6 +19,7 @@ use Rattle.lattice.specs.Words.{Given, count}
 use Rattle.lattice.specs.Lattice.{entryNumbered, lattice}
 use Rattle.lattice.specs.Rows.{firsts, lasts, lefts, costs, nexts, Filled}
 use Rattle.lattice.proofs.RuleLaws.{rules}
+use Rattle.lattice.proofs.RowRules.{row-rules}
 use Rattle.lattice.proofs.OverLaws.{over-at}
 use Rattle.lattice.specs.Accepted.{Accepted}
 use Rattle.lattice.proofs.LatticeLaws.{lattice-length}
@@ -216,6 +217,7 @@ answers j r = go (comes j r)
           firstTest = λ other f. same ∙ ap (λ (a : Answer). outcome a r) (let q : answer ≡ other = cc in q);
           unchanged = λ low high. ap (λ (o : Outcome). o .rows) same;
           rules = λ f. absurd (passes answer f e);
+          rowRules = row-rules (characterCount j) (latticeOf j);
           offset = λ f. absurd (passes answer f e);
           run = λ f. absurd (passes answer f e);
           filled = λ f. absurd (passes answer f e);
@@ -234,6 +236,7 @@ answers j r = go (comes j r)
           firstTest = λ answer q. absurd (passes answer e q);
           unchanged = λ low high. absurd (omega (arith, number a));
           rules = λ q. rules (characterCount j) (givenOf j) ok;
+          rowRules = row-rules (characterCount j) (latticeOf j);
           offset = λ q. f .offset;
           run = λ q. f .run;
           filled = λ q. f .filled;
@@ -250,6 +253,7 @@ answers j r = go (comes j r)
           firstTest = λ answer q. absurd (passes answer e q);
           unchanged = λ low high. absurd (omega (arith, number a));
           rules = λ q. rules (characterCount j) (givenOf j) ok;
+          rowRules = row-rules (characterCount j) (latticeOf j);
           offset = λ q. f .offset;
           run = λ q. f .run;
           filled = λ q. f .filled;

@@ -15,7 +15,7 @@ use Rattle.ground.specs.declared.answer.Answer.{Answer}
 use Rattle.ground.specs.declared.answer.Answer.the-variants.{Done, NoPath, BrokenLink}
 use Rattle.lattice.specs.Lattice.{LatticeEntry, entryNumbered, lattice}
 use Rattle.lattice.specs.Rows.{LatticeRows, rows, Filled}
-use Rattle.lattice.specs.Rules.{Rules}
+use Rattle.lattice.specs.Rules.{Rules, RowRules}
 use Rattle.lattice.specs.Size.{AllInRange}
 use Rattle.walk.specs.WalkBack.{walkBack}
 use Rattle.walk.specs.WordRows.{wordOffsets, wordIds, wordKinds}
@@ -63,12 +63,14 @@ pub record Written (j : Job) (found : List ℕ) (before after : JobRows) : Type 
   pub id : after .wordId ≡ over (wordIds (j .entry) found) (before .wordId)
   pub kind : after .wordKind ≡ over (wordKinds (j .kind) found) (before .wordKind)
 
+-- What a caller may lean on, beside the definition.
 pub record Answers (j : Job) (r : JobRows) : Type 0 where
   -- the first test that holds is the answer, and nothing changes: these are the answers 1 to 11
   pub firstTest : (answer : Answer) → refused j r ≡ some answer → segment j r ≡ outcome answer r
   pub unchanged : 1 ≤ numbersOf (segment j r .answer) .number → numbersOf (segment j r .answer) .number ≤ 11 → segment j r .rows ≡ r
-  -- past the tests the lattice keeps document 01's rules, over all entries, and the character and lattice rows are filled
+  -- past the tests the lattice keeps document 01's rules, over all entries; so do its rows; and with them the rows are filled
   pub rules : refused j r ≡ none → Rules (characterCount j) (givenOf j)
+  pub rowRules : RowRules (characterCount j) (latticeOf j)
   pub offset : refused j r ≡ none → segment j r .rows .offset ≡ over (offsets (letters (j .text))) (r .offset)
   pub run : refused j r ≡ none → segment j r .rows .run ≡ over (runs (letters (j .text))) (r .run)
   pub filled : refused j r ≡ none → Filled (characterCount j) (latticeOf j) (latticeRows r) (latticeRows (segment j r .rows))
