@@ -7,7 +7,6 @@ use mathlib.Core.Option.{Option, none, some, orElse, Option·some-ne-none}
 use native.Mathlib.Omega.{arith}
 use native.Mathlib.Numerals.{add-one, sub-one}
 use lib.ListN.{length, getD}
-use lib.IntN.{ℤ}
 use lib.Dec.{ltb, leb, eqb}
 use borrow.Author.Tests.{ltb-true, ltb-false, leb-false, eqb-true, eqb-false, not-false}
 use Rattle.ground.specs.Limits.{textLimit, characterLimit, candidateLimit, sizeLimit, priceLimit, thresholdLimit, kindLimit}
@@ -17,14 +16,15 @@ use Rattle.ground.specs.Charge.{PricesFit}
 use Rattle.ground.specs.Text.{letters, sizes, wellFormed}
 use Rattle.ground.specs.Characters.{textRefused, checkedBy, checked, Sound}
 use Rattle.ground.specs.declared.answer.Answer.{Answer}
-use Rattle.ground.specs.declared.answer.Answer.the-variants.{Done, NotUtf8, TooLong, Uneven, TooMany, BadMatrix, BadMode, ShortRow}
-use Rattle.ground.specs.declared.answer.Answer.the-variants.{BadKind, OutOfOrder, BadSpan, BadId, NoPath, BrokenLink}
+use Rattle.ground.specs.declared.answer.Answer.the-variants.{NotUtf8, TooLong, Uneven, TooMany, BadMatrix, BadMode, ShortRow}
+use Rattle.ground.specs.declared.answer.Answer.the-variants.{BadKind, OutOfOrder, BadSpan, BadId}
 use Rattle.ground.specs.declared.charge.Mode.{Mode}
 use Rattle.ground.specs.declared.text.Checked.{Checked}
 use Rattle.ground.specs.declared.text.Checked.the-variants as Checked
+use Rattle.ground.proofs.TextLaws.{sizes-within}
 use Rattle.ground.proofs.CharacterLaws.{passed as text-passed}
 use Rattle.checks.specs.Job.{Job, JobRows, characterCount, candidateCount}
-use Rattle.checks.specs.Checks.{uneven, badSize, badMatrix, badMode, modeOf, tooShort, shortRow, belowPrevious, badSpan, badId}
+use Rattle.checks.specs.Checks.{uneven, badSize, badMatrix, badMode, modeOf, tooMany, tooShort, shortRow, badKind, belowPrevious, badSpan, badId}
 use Rattle.checks.specs.Checks.{inputRefused, firstRefused, candidatesRefused, refused}
 use Rattle.checks.specs.Inner.{verdictOf, namedBy, inputsBy}
 use Rattle.checks.specs.declared.checks.Verdict.{Verdict}
@@ -408,69 +408,78 @@ failure-told (some other) n mode answer e = let same : other ≡ answer = cc in 
 
 -- ---- the answers
 
--- The number of an answer that the tests give.
-abbrev Tested : Answer → Type 0
-Tested answer = (1 ≤ numbersOf answer .number) × (numbersOf answer .number ≤ 11)
+-- What is told of an answer that the tests give, with a text of so many bytes and c candidates: its number, and what its place can be.
+pub record Tested (bytes c : ℕ) (answer : Answer) : Type 0 where
+  pub low : 1 ≤ numbersOf answer .number
+  pub high : numbersOf answer .number ≤ 11
+  pub within : numbersOf answer .number ≡ 1 → numbersOf answer .place ≤ bytes
+  pub listed : 8 ≤ numbersOf answer .number → numbersOf answer .place < c
 
--- None, or an answer with such a number.
-unfoldable Early : Option Answer → Type 0
-Early none = Unit {0}
-Early (some answer) = Tested answer
+module _ (bytes c : ℕ) where
+  -- None, or such an answer.
+  unfoldable Early : Option Answer → Type 0
+  Early none = Unit {0}
+  Early (some answer) = Tested bytes c answer
 
--- Of two such, the first that is an answer is such.
-early-or : (o p : Option Answer) → Early o → Early p → Early (orElse o p)
-unfolding orElse Early
-early-or none p a b = b
-early-or (some answer) p a b = a
+  -- The answers 2 to 7 are such.
+  plain : (answer : Answer) → 2 ≤ numbersOf answer .number → numbersOf answer .number ≤ 7 → Tested bytes c answer
+  plain answer low high = record { low = omega arith; high = omega arith; within = λ e. absurd (omega arith); listed = λ h. absurd (omega arith) }
 
--- So is a test's.
-early : (t : Bool) (answer : Answer) → Tested answer → Early (refuse t answer)
-unfolding Early
-early true answer h = h
-early false answer h = tt
+  -- So are 8 to 11, of a candidate that is listed.
+  placed-at : (answer : Answer) (k : ℕ) → k < c → 8 ≤ numbersOf answer .number → numbersOf answer .number ≤ 11 → numbersOf answer .place ≡ k → Tested bytes c answer
+  placed-at answer k h low high e = record { low = omega arith; high = high; within = λ q. absurd (omega arith); listed = λ q. omega arith }
 
--- So is the first of a test's and what comes behind it.
-early-test : (t : Bool) (answer : Answer) (rest : Option Answer) → Tested answer → Early rest → Early (orElse (refuse t answer) rest)
-early-test t answer rest h = early-or (refuse t answer) rest (early t answer h)
+  -- Of two such, the first that is an answer is such.
+  early-or : (o p : Option Answer) → Early o → Early p → Early (orElse o p)
+  unfolding orElse Early
+  early-or none p a b = b
+  early-or (some answer) p a b = a
 
--- So is the first of many.
-early-first : (f : ℕ → Option Answer) → ((k : ℕ) → Early (f k)) → (from many : ℕ) → Early (firstRefused f from many)
-unfolding firstRefused Early
-early-first f h from zero = tt
-early-first f h from (suc many) = early-or (f from) (firstRefused f (suc from) many) (h from) (early-first f h (suc from) many)
+  -- So is a test's.
+  early : (t : Bool) (answer : Answer) → Tested bytes c answer → Early (refuse t answer)
+  unfolding Early
+  early true answer h = h
+  early false answer h = tt
+
+  -- So is the first of a test's and what comes behind it.
+  early-test : (t : Bool) (answer : Answer) (rest : Option Answer) → Tested bytes c answer → Early rest → Early (orElse (refuse t answer) rest)
+  early-test t answer rest h = early-or (refuse t answer) rest (early t answer h)
+
+  -- So is the first of many.
+  early-first : (f : ℕ → Option Answer) (from many : ℕ) → ((k : ℕ) → k < from + many → Early (f k)) → Early (firstRefused f from many)
+  unfolding firstRefused Early
+  early-first f from zero h = tt
+  early-first f from (suc many) h =
+      early-or (f from) (firstRefused f (suc from) many) (h from (omega arith)) (early-first f (suc from) many (λ k l. h k (omega arith)))
 
 -- So is the first of all tests.
-all-early : (j : Job) (r : JobRows) → Early (refused j r)
+all-early : (j : Job) (r : JobRows) → Early (length (j .text)) (candidateCount j) (refused j r)
 unfolding refused
 all-early j r =
     let n = characterCount j in
     let c = candidateCount j in
-    early-or _ _
-    (early-or _ _
-    (early-test (ltb textLimit (length (j .text))) TooLong _ (omega arith)
-    (early-test (not (wellFormed (j .text))) (NotUtf8 (sizes (letters (j .text)))) _ (omega arith)
-    (early (ltb characterLimit n) TooLong (omega arith))))
-    (early-test (uneven c (length (j .end)) (length (j .kind)) (length (j .extra)) (length (j .entry))) Uneven _ (omega arith)
-    (early-test (ltb candidateLimit c) TooMany _ (omega arith)
-    (early-test (badMatrix (j .height) (j .width) (length (j .matrix))) BadMatrix _ (omega arith)
-    (early (badMode (j .mode) (j .kanjiThreshold) (j .kanjiPrice) (j .otherThreshold) (j .otherPrice)) BadMode (omega arith))))))
-    (early-test (shortRow n c r) ShortRow _ (omega arith)
-    (early-first _
-    (λ k.
-    early-test (ltb kindLimit (getD (j .kind) k 0)) (BadKind k) _ (omega arith)
-    (early-test (belowPrevious (j .start) k) (OutOfOrder k) _ (omega arith)
-    (early-test (badSpan n (getD (j .start) k 0) (getD (j .end) k 0)) (BadSpan k) _ (omega arith)
-    (early (badId (j .height) (j .width) (j .entry) k) (BadId k) (omega arith)))))
-    0 c))
+    let b = length (j .text) in
+    early-or b c _ _
+    (early-or b c _ _
+    (early-test b c (ltb textLimit b) TooLong _ (plain b c TooLong (omega arith) (omega arith))
+    (early-test b c (not (wellFormed (j .text))) (NotUtf8 (sizes (letters (j .text)))) _
+    (record { low = omega arith; high = omega arith; within = λ q. sizes-within (j .text); listed = λ q. absurd (omega arith) })
+    (early b c (ltb characterLimit n) TooLong (plain b c TooLong (omega arith) (omega arith)))))
+    (early-test b c (uneven c (length (j .end)) (length (j .kind)) (length (j .extra)) (length (j .entry))) Uneven _ (plain b c Uneven (omega arith) (omega arith))
+    (early-test b c (tooMany c) TooMany _ (plain b c TooMany (omega arith) (omega arith))
+    (early-test b c (badMatrix (j .height) (j .width) (length (j .matrix))) BadMatrix _ (plain b c BadMatrix (omega arith) (omega arith))
+    (early b c (badMode (j .mode) (j .kanjiThreshold) (j .kanjiPrice) (j .otherThreshold) (j .otherPrice)) BadMode
+    (plain b c BadMode (omega arith) (omega arith)))))))
+    (early-test b c (shortRow n c r) ShortRow _ (plain b c ShortRow (omega arith) (omega arith))
+    (early-first b c _ 0 c
+    (λ k h.
+    let l : k < c = omega arith in
+    early-test b c (badKind (getD (j .kind) k 0)) (BadKind k) _ (placed-at b c (BadKind k) k l (omega arith) (omega arith) refl)
+    (early-test b c (belowPrevious (j .start) k) (OutOfOrder k) _ (placed-at b c (OutOfOrder k) k l (omega arith) (omega arith) refl)
+    (early-test b c (badSpan n (getD (j .start) k 0) (getD (j .end) k 0)) (BadSpan k) _ (placed-at b c (BadSpan k) k l (omega arith) (omega arith) refl)
+    (early b c (badId (j .height) (j .width) (j .entry) k) (BadId k) (placed-at b c (BadId k) k l (omega arith) (omega arith) refl)))))))
 
--- No refusal of the tests is an answer that the work itself gives.
-pub no-later : (j : Job) (r : JobRows) (answer : Answer) → refused j r ≡ some answer
-    → (answer ≡ NoPath → ⊥) × (answer ≡ BrokenLink → ⊥) × ((count : ℕ) (cost : ℤ) → answer ≡ Done count cost → ⊥)
+-- So every refusal of the tests is such.
+pub tested : (j : Job) (r : JobRows) (answer : Answer) → refused j r ≡ some answer → Tested (length (j .text)) (candidateCount j) answer
 unfolding Early
-no-later j r answer e = (λ q. not-by q (λ h. omega arith), λ q. not-by q (λ h. omega arith), λ count cost q. not-by q (λ h. omega arith))
-  where
-    tested : Tested answer
-    tested = subst Early e (all-early j r)
-
-    not-by : {other : Answer} → answer ≡ other → (Tested other → ⊥) → ⊥
-    not-by q h = h (subst Tested q tested)
+tested j r answer e = subst (Early (length (j .text)) (candidateCount j)) e (all-early j r)

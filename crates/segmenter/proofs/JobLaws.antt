@@ -6,6 +6,7 @@ use mathlib.Core.List.{List, map}
 use mathlib.Core.Option.{Option, none, some, Option·some-ne-none}
 use native.Mathlib.Omega.{arith}
 use lib.ListN.{length, getD, length-map}
+use lib.IntN.{ℤ}
 use Rattle.ground.specs.Rows.{over}
 use Rattle.ground.specs.Entry.{entryAt, noneLink}
 use Rattle.ground.specs.Answer.{numbersOf}
@@ -28,7 +29,7 @@ use Rattle.walk.specs.WalkBack.{walkBack}
 use Rattle.walk.proofs.WalkLaws.{words-fit, same-walk-back}
 use Rattle.checks.specs.Job.{Job, JobRows, characterCount, candidateCount}
 use Rattle.checks.specs.Checks.{refused}
-use Rattle.checks.proofs.CheckLaws.{InputsPassed, RowsPassed, CandidatesPassed, passed, no-later}
+use Rattle.checks.proofs.CheckLaws.{InputsPassed, RowsPassed, CandidatesPassed, passed, tested}
 use Rattle.walk.specs.WordRows.{wordsBy}
 use Rattle.segmenter.specs.Segment.{Outcome, outcome, givenOf, worked, segment}
 use Rattle.segmenter.specs.Answers.{latticeOf, endMark, Ranged, SameLengths, SameWords, latticeRows, Written, Answers}
@@ -212,21 +213,26 @@ answers j r = go (comes j r)
     go : Comes j r → Answers j r
     go (early answer e same) =
         let here : segment j r .answer ≡ answer = ap (λ (o : Outcome). o .answer) same in
-        let later = no-later j r answer e in
+        let t = tested j r answer e in
+        let place : numbersOf (segment j r .answer) .place ≡ numbersOf answer .place = ap (λ (answer : Answer). numbersOf answer .place) here in
+        let no-path : segment j r .answer ≡ NoPath → ⊥ = λ q. omega (arith, number here, number q, t .high) in
+        let no-words : (count : ℕ) (cost : ℤ) → segment j r .answer ≡ Done count cost → ⊥ = λ count cost q. omega (arith, number here, number q, t .low) in
         record {
           firstTest = λ other f. same ∙ ap (λ (a : Answer). outcome a r) (let q : answer ≡ other = cc in q);
           unchanged = λ low high. ap (λ (o : Outcome). o .rows) same;
+          offsetPlace = λ q. omega (arith, place, t .within (sym (number here) ∙ q));
+          candidatePlace = λ low high. omega (arith, place, t .listed (omega (arith, number here)));
           rules = λ f. absurd (passes answer f e);
           rowRules = row-rules (characterCount j) (latticeOf j);
           offset = λ f. absurd (passes answer f e);
           run = λ f. absurd (passes answer f e);
           filled = λ f. absurd (passes answer f e);
-          noPath = (λ q. absurd (later .0 (sym here ∙ q)), λ h. absurd (passes answer (h .0) e));
-          noWords = λ q. absurd (later .0 (sym here ∙ q));
-          done = (λ d. absurd (later .2 (d .0) (d .1) (sym here ∙ d .2)), λ h. absurd (passes answer (h .0) e));
-          cost = λ count cost q. absurd (later .2 count cost (sym here ∙ q));
-          words = λ count cost q. absurd (later .2 count cost (sym here ∙ q));
-          neverBroken = λ q. later .1 (sym here ∙ q);
+          noPath = (λ q. absurd (no-path q), λ h. absurd (passes answer (h .0) e));
+          noWords = λ q. absurd (no-path q);
+          done = (λ d. absurd (no-words (d .0) (d .1) (d .2)), λ h. absurd (passes answer (h .0) e));
+          cost = λ count cost q. absurd (no-words count cost q);
+          words = λ count cost q. absurd (no-words count cost q);
+          neverBroken = λ q. omega (arith, number here, number q, t .high);
           lengths =
               subst (λ (o : Outcome). SameLengths r (o .rows)) (sym same)
               (record { offset = refl; run = refl; first = refl; last = refl; left = refl; cost = refl; next = refl; wordOffset = refl; wordId = refl; wordKind = refl });
@@ -235,6 +241,8 @@ answers j r = go (comes j r)
         record {
           firstTest = λ answer q. absurd (passes answer e q);
           unchanged = λ low high. absurd (omega (arith, number a));
+          offsetPlace = λ q. absurd (omega (arith, number a));
+          candidatePlace = λ low high. absurd (omega (arith, number a));
           rules = λ q. rules (characterCount j) (givenOf j) ok;
           rowRules = row-rules (characterCount j) (latticeOf j);
           offset = λ q. f .offset;
@@ -252,6 +260,8 @@ answers j r = go (comes j r)
         record {
           firstTest = λ answer q. absurd (passes answer e q);
           unchanged = λ low high. absurd (omega (arith, number a));
+          offsetPlace = λ q. absurd (omega (arith, number a));
+          candidatePlace = λ low high. absurd (omega (arith, number a));
           rules = λ q. rules (characterCount j) (givenOf j) ok;
           rowRules = row-rules (characterCount j) (latticeOf j);
           offset = λ q. f .offset;

@@ -1,6 +1,6 @@
 -- Document 01, "Given exactly when", of the answers that come after the tests, and what each answer leaves: statements about the whole job, for
 -- every job and all rows. They hold: `answers` in JobLaws.
-use Prim.Native.Nat.{ℕ, suc, _≤_}
+use Prim.Native.Nat.{ℕ, suc, _≤_, _<_}
 use mathlib.Core.Path.{_≡_}
 use mathlib.Core.Logic.{_↔_}
 use mathlib.Core.Bool.{true, false}
@@ -68,6 +68,10 @@ pub record Answers (j : Job) (r : JobRows) : Type 0 where
   -- the first test that holds is the answer, and nothing changes: these are the answers 1 to 11
   pub firstTest : (answer : Answer) → refused j r ≡ some answer → segment j r ≡ outcome answer r
   pub unchanged : 1 ≤ numbersOf (segment j r .answer) .number → numbersOf (segment j r .answer) .number ≤ 11 → segment j r .rows ≡ r
+  -- the place of 1 is an offset in the text, and that of 8 to 11 a candidate's number
+  pub offsetPlace : numbersOf (segment j r .answer) .number ≡ 1 → numbersOf (segment j r .answer) .place ≤ length (j .text)
+  pub candidatePlace : 8 ≤ numbersOf (segment j r .answer) .number → numbersOf (segment j r .answer) .number ≤ 11
+      → numbersOf (segment j r .answer) .place < candidateCount j
   -- past the tests the lattice keeps document 01's rules, over all entries; so do its rows; and with them the rows are filled
   pub rules : refused j r ≡ none → Rules (characterCount j) (givenOf j)
   pub rowRules : RowRules (characterCount j) (latticeOf j)
