@@ -312,6 +312,33 @@ pub whole-found : (walked : Option (List ℕ)) (count : ℕ) → walkedOf walked
 whole-found none count e = absurd (let z : _≡_ {A = ℕ} 0 1 = cc in omega arith)
 whole-found (some found) count e = (found, refl, cc)
 
+-- What the first pass's count tells: the candidates found are so many, at most n, and so many links from the end mark on lead to them.
+pub record Found (start end left : List ℕ) (n count : ℕ) : Type 0 where
+  pub words : List ℕ
+  pub walked : walkBack start end left n ≡ some words
+  pub many : length words ≡ count
+  pub few : count ≤ n
+  pub sure : Sure left (length start + 1) count (length start + 1)
+  pub again : linked left count (length start + 1) [] ≡ words
+
+pub found-by : (start end left : List ℕ) (n count : ℕ) → length start + 2 ≤ length left → walkedOf (walkBack start end left n) ≡ Whole count
+    → Found start end left n count
+found-by start end left n count room e =
+    let (words, walked, many) = whole-found (walkBack start end left n) count e in
+    let (sure, again) =
+    subst
+    (λ (count : ℕ). Sure left (length start + 1) count (length start + 1) × (linked left count (length start + 1) [] ≡ words))
+    many
+    (walk-again start end left n words room walked) in
+    record {
+      words = words;
+      walked = walked;
+      many = many;
+      few = omega (arith, many, words-fit start end left n words walked);
+      sure = sure;
+      again = again;
+    }
+
 -- ---- rows that agree
 
 -- Only the links of the start mark, the candidates and the end mark are looked at: rows that agree there give the same walk.

@@ -1,7 +1,7 @@
 -- The tests in their order, then the two passes. Assumes nothing.
-use Prim.Native.Nat.{ℕ, _+_, _≤_}
-use mathlib.Core.Path.{_≡_, ap, _∙_, sym, subst}
-use mathlib.Core.List.{List, []}
+use Prim.Native.Nat.{ℕ, _+_}
+use mathlib.Core.Path.{_≡_, ap, _∙_, sym}
+use mathlib.Core.List.{List}
 use mathlib.Core.Option.{Option, none, some, orElse}
 use borrow.Author.Needs.{needs}
 use borrow.Author.Tests.{lt-ltb, le-ltb, eq-eqb, ne-eqb}
@@ -12,8 +12,7 @@ use Rattle.ground.specs.Limits.{characterLimit, candidateLimit}
 use Rattle.ground.specs.Rows.{over}
 use Rattle.ground.specs.declared.answer.Answer.the-variants.{Done}
 use Rattle.walk.specs.WalkBack.{walkBack, written, walkBackAlone, outcome}
-use Rattle.walk.specs.Inner.{linked, Sure}
-use Rattle.walk.proofs.WalkLaws.{words-fit, walk-again, broken-found, whole-found}
+use Rattle.walk.proofs.WalkLaws.{Found, found-by, broken-found}
 use Rattle.walk.proofs.walk_back.walk_back.Statement.{statement}
 use Rattle.walk.proofs.walk_back.walk_back.Tie as tie
 
@@ -91,30 +90,13 @@ passed c o e =
     )
 
 -- what the walk found, of which the first pass told the count
-found : (c : tie.After-count2) → ((f : List ℕ) × (walked (c .before .before) ≡ some f) × (length f ≡ c .count2 .given .0 .0))
+found : (c : tie.After-count2)
+    → Found (at-count (c .before .before) .args .start .now) (at-count (c .before .before) .args .end .now) (at-count (c .before .before) .args .left .now)
+    (at-count (c .before .before) .args .n) (c .count2 .given .0 .0)
 found c =
     let k = c .before .before in
-    whole-found (walked k) (c .count2 .given .0 .0) (sym (k .count .ensures) ∙ c .count2 .given .1)
-
--- it has no more words than the row has places
-fits : (c : tie.After-count2) → c .count2 .given .0 .0 ≤ at-count (c .before .before) .args .n
-fits c =
-    let a = at-count (c .before .before) .args in
-    let f = found c in
-    omega (arith, f .2, words-fit (a .start .now) (a .end .now) (a .left .now) (a .n) (f .0) (f .1))
-
--- its links, followed once more
-again : (c : tie.After-count2)
-    → Sure (at-count (c .before .before) .args .left .now) (length (at-count (c .before .before) .args .start .now) + 1) (c .count2 .given .0 .0) (length (at-count (c .before .before) .args .start .now) + 1)
-    × (linked (at-count (c .before .before) .args .left .now) (c .count2 .given .0 .0) (length (at-count (c .before .before) .args .start .now) + 1) []
-    ≡ found c .0)
-again c =
-    let a = at-count (c .before .before) .args in
-    let f = found c in
-    subst
-    (λ (count : ℕ). Sure (a .left .now) (length (a .start .now) + 1) count (length (a .start .now) + 1) × (linked (a .left .now) count (length (a .start .now) + 1) [] ≡ f .0))
-    (f .2)
-    (walk-again (a .start .now) (a .end .now) (a .left .now) (a .n) (f .0) (omega arith) (f .1))
+    let a = at-count k .args in
+    found-by (a .start .now) (a .end .now) (a .left .now) (a .n) (c .count2 .given .0 .0) (omega arith) (sym (k .count .ensures) ∙ c .count2 .given .1)
 
 count-requires : tie.Need-count-requires
 count-requires c κs = search needs
@@ -131,10 +113,10 @@ add-write c = search needs
 write-requires : tie.Need-write-requires
 write-requires c κs =
     let w = c .before .before in
-    (again w .0, omega (arith, fits w))
+    (found w .sure, omega (arith, found w .few))
 
 cast-t19 : tie.Need-cast-t19
-cast-t19 c = omega (arith, fits (c .before .before .before .before .before))
+cast-t19 c = omega (arith, found (c .before .before .before .before .before) .few)
 
 returns-6 : tie.Need-returns-6
 returns-6 c =
@@ -151,9 +133,9 @@ returns-7 c =
     let k = w .before .before in
     let a = at-count k .args in
     let f = found w in
-    ap (λ (row : List ℕ). outcome (Done (w .count2 .given .0 .0) (pos 0)) row) (e .write .ensures ∙ ap (λ (new : List ℕ). over new (a .word .now)) (again w .1))
-    ∙ ap (λ (count : ℕ). outcome (Done count (pos 0)) (over (f .0) (a .word .now))) (sym (f .2))
-    ∙ passed k (some (f .0)) (f .1)
+    ap (λ (row : List ℕ). outcome (Done (w .count2 .given .0 .0) (pos 0)) row) (e .write .ensures ∙ ap (λ (new : List ℕ). over new (a .word .now)) (found w .again))
+    ∙ ap (λ (count : ℕ). outcome (Done count (pos 0)) (over (f .words) (a .word .now))) (sym (f .many))
+    ∙ passed k (some (f .words)) (f .walked)
 
 pub walk-back-spec : {M : Type 1} → statement M
 walk-back-spec =

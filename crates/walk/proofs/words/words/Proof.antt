@@ -1,8 +1,8 @@
 -- 12 by the end mark's left; otherwise the walk back's two passes. Assumes nothing.
-use Prim.Native.Nat.{ℕ, _+_, _≤_}
-use mathlib.Core.Path.{_≡_, refl, ap, ap₂, _∙_, sym, subst}
+use Prim.Native.Nat.{ℕ, _+_}
+use mathlib.Core.Path.{_≡_, refl, ap, ap₂, _∙_, sym}
 use mathlib.Core.Bool.{true, false, not}
-use mathlib.Core.List.{List, []}
+use mathlib.Core.List.{List}
 use mathlib.Core.Option.{Option, none, some}
 use borrow.Author.Needs.{needs}
 use borrow.Author.Tests.{eq-eqb, ne-eqb}
@@ -15,8 +15,7 @@ use Rattle.ground.specs.Rows.{over}
 use Rattle.ground.specs.Entry.{noneLink}
 use Rattle.ground.specs.declared.answer.Answer.the-variants.{Done, NoPath, BrokenLink}
 use Rattle.walk.specs.WalkBack.{walkBack}
-use Rattle.walk.specs.Inner.{linked, Sure}
-use Rattle.walk.proofs.WalkLaws.{words-fit, walk-again, broken-found, whole-found}
+use Rattle.walk.proofs.WalkLaws.{Found, found-by, broken-found}
 use Rattle.walk.specs.WordRows.{wordOffsets, wordIds, wordKinds}
 use Rattle.walk.specs.Inner.{endReached}
 use Rattle.walk.proofs.WordLaws.{ended-by}
@@ -54,31 +53,13 @@ reached c =
     ap not (ne-eqb (getD (a .left .now) (length (a .start .now) + 1) 0) noneLink (c .before .if1 .left))
 
 -- what the walk found, of which the first pass told the count
-found : (c : tie.After-count2) → ((f : List ℕ) × (walked (c .before .before) ≡ some f) × (length f ≡ c .count2 .given .0 .0))
+found : (c : tie.After-count2)
+    → Found (at-count (c .before .before) .args .start .now) (at-count (c .before .before) .args .end .now) (at-count (c .before .before) .args .left .now)
+    (at-count (c .before .before) .args .n) (c .count2 .given .0 .0)
 found c =
     let k = c .before .before in
-    whole-found (walked k) (c .count2 .given .0 .0) (sym (k .count .ensures) ∙ c .count2 .given .1)
-
--- it has no more words than the text has characters
-fits : (c : tie.After-count2) → c .count2 .given .0 .0 ≤ at-count (c .before .before) .args .n
-fits c =
-    let a = at-count (c .before .before) .args in
-    let f = found c in
-    omega (arith, f .2, words-fit (a .start .now) (a .end .now) (a .left .now) (a .n) (f .0) (f .1))
-
--- its links, followed once more
-again : (c : tie.After-count2)
-    → Sure (at-count (c .before .before) .args .left .now) (length (at-count (c .before .before) .args .start .now) + 1) (c .count2 .given .0 .0) (length (at-count (c .before .before) .args .start .now) + 1)
-    × (linked (at-count (c .before .before) .args .left .now) (c .count2 .given .0 .0) (length (at-count (c .before .before) .args .start .now) + 1) []
-    ≡ found c .0)
-again c =
-    let s = at-count (c .before .before) in
-    let a = s .args in
-    let f = found c in
-    subst
-    (λ (count : ℕ). Sure (a .left .now) (length (a .start .now) + 1) count (length (a .start .now) + 1) × (linked (a .left .now) count (length (a .start .now) + 1) [] ≡ f .0))
-    (f .2)
-    (walk-again (a .start .now) (a .end .now) (a .left .now) (a .n) (f .0) (s .pre .1 .0) (f .1))
+    let a = at-count k .args in
+    found-by (a .start .now) (a .end .now) (a .left .now) (a .n) (c .count2 .given .0 .0) (at-count k .pre .1 .0) (sym (k .count .ensures) ∙ c .count2 .given .1)
 
 count-requires : tie.Need-count-requires
 count-requires c κs = search needs
@@ -93,10 +74,10 @@ write-requires : tie.Need-write-requires
 write-requires c κs =
     let w = c .before .before .before .before in
     let s = at-count (w .before .before) in
-    ((s .pre .0 .0, again w .0), (omega (arith, fits w), omega (arith, fits w), omega (arith, fits w), omega arith))
+    ((s .pre .0 .0, found w .sure), (omega (arith, found w .few), omega (arith, found w .few), omega (arith, found w .few), omega arith))
 
 cast-t27 : tie.Need-cast-t27
-cast-t27 c = omega (arith, fits (c .before .before .before .before .before .before .before .before .before .before .before))
+cast-t27 c = omega (arith, found (c .before .before .before .before .before .before .before .before .before .before .before) .few)
 
 returns-2 : tie.Need-returns-2
 returns-2 c =
@@ -126,11 +107,11 @@ returns-3 c =
     let f = found w in
     ended-by (a .n) (a .start .now) (a .end .now) (a .kind .now) (a .entry .now) (a .offset .now) (a .left .now) (a .cost)
     (a .word-offset .now) (a .word-id .now) (a .word-kind .now) (Done (w .count2 .given .0 .0) (toZ w32 (ofZ w32 (a .cost))))
-    (e .write .last .1 .1 .1 .1 .1 .1 .0) (e .write .last .1 .1 .1 .1 .1 .1 .1 .0) (e .write .last .1 .1 .1 .1 .1 .1 .1 .1 .0) true (some (f .0)) (reached k) (f .1)
-    (ap₂ Done (sym (f .2)) (toZ-ofZ (s .fits .cost)))
-    (e .write .ensures .0 ∙ ap (λ (words : List ℕ). over (wordOffsets (a .offset .now) (a .start .now) words) (a .word-offset .now)) (again w .1))
-    (e .write .ensures .1 .0 ∙ ap (λ (words : List ℕ). over (wordIds (a .entry .now) words) (a .word-id .now)) (again w .1))
-    (e .write .ensures .1 .1 ∙ ap (λ (words : List ℕ). over (wordKinds (a .kind .now) words) (a .word-kind .now)) (again w .1))
+    (e .write .last .1 .1 .1 .1 .1 .1 .0) (e .write .last .1 .1 .1 .1 .1 .1 .1 .0) (e .write .last .1 .1 .1 .1 .1 .1 .1 .1 .0) true (some (f .words)) (reached k) (f .walked)
+    (ap₂ Done (sym (f .many)) (toZ-ofZ (s .fits .cost)))
+    (e .write .ensures .0 ∙ ap (λ (words : List ℕ). over (wordOffsets (a .offset .now) (a .start .now) words) (a .word-offset .now)) (f .again))
+    (e .write .ensures .1 .0 ∙ ap (λ (words : List ℕ). over (wordIds (a .entry .now) words) (a .word-id .now)) (f .again))
+    (e .write .ensures .1 .1 ∙ ap (λ (words : List ℕ). over (wordKinds (a .kind .now) words) (a .word-kind .now)) (f .again))
 
 pub words-spec : {M : Type 1} → statement M
 words-spec =
