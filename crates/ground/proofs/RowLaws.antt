@@ -1,5 +1,5 @@
--- Parts of rows; the two rows of the character table: their lengths, and the runs counted from the right. Assumes nothing.
-use Prim.Native.Nat.{ℕ, suc, _+_, _*_, _≤_, _<_}
+-- Parts and places of rows; the two rows of the character table: their lengths, that offsets rise, and the runs counted from the right. Assumes nothing.
+use Prim.Native.Nat.{ℕ, zero, suc, _+_, _*_, _≤_, _<_}
 use mathlib.Core.Path.{_≡_, refl, ap, _∙_, sym}
 use mathlib.Core.Bool.{Bool, true, false, cond}
 use mathlib.Core.List.{List, [], _∷_, _++_}
@@ -7,7 +7,7 @@ use native.Mathlib.Omega.{arith}
 use native.Mathlib.Nat.{zero-add, suc-mul, mul-le-mul-right}
 use lib.ListN.{length, take, drop, getD, set, take-append-drop, length-append, length-take, length-drop, drop-of-length-le}
 use lib.Seq.{sets, sets-eq, take-suc, drop-cons, append-snoc, getD-at, getD-append-add, getD-take, getD-drop, set-at, length-take-le}
-use Rattle.ground.specs.Text.{isKanji, runOf, runAhead, runs, offsetsFrom}
+use Rattle.ground.specs.Text.{isKanji, runOf, runAhead, runs, sizes, offsetsFrom}
 use Rattle.ground.specs.Rows.{part, over}
 use Rattle.ground.specs.Filling.{isSet, kanjiBits, counted}
 use Rattle.ground.specs.declared.text.Letter.{Letter}
@@ -26,6 +26,12 @@ part-length width k row h = length-take-le width (drop (k * width) row) (rw leng
 pub part-fits {ℓ} : {A : Type ℓ} (width k count : ℕ) (row : List A) → length row ≡ count * width → k < count → k * width + width ≤ length row
 part-fits width k count row e h = omega (arith, suc-mul k width, mul-le-mul-right {m = suc k} {n = count} width h)
 
+-- a place that the row has holds the same, whatever is taken where there is none
+pub in-row {ℓ} : {A : Type ℓ} (row : List A) (i : ℕ) (d e : A) → i < length row → getD row i d ≡ getD row i e
+in-row [] i d e h = absurd (omega arith)
+in-row (x ∷ row) zero d e h = refl
+in-row (x ∷ row) (suc i) d e h = in-row row i d e (omega arith)
+
 -- ---- lengths
 
 pub bits-length : (ls : List Letter) → length (kanjiBits ls) ≡ suc (length ls)
@@ -42,6 +48,31 @@ pub offsets-length : (at : ℕ) (ls : List Letter) → length (offsetsFrom at ls
 unfolding offsetsFrom
 offsets-length at [] = refl
 offsets-length at (l ∷ ls) = ap suc (offsets-length (at + l .size) ls)
+
+-- offsets rise from 0, or where they are counted from, to the end of the last character
+pub offsets-first : (at : ℕ) (ls : List Letter) → getD (offsetsFrom at ls) 0 0 ≡ at
+unfolding offsetsFrom
+offsets-first at [] = refl
+offsets-first at (l ∷ ls) = refl
+
+pub offsets-end : (at : ℕ) (ls : List Letter) → getD (offsetsFrom at ls) (length ls) 0 ≡ at + sizes ls
+unfolding offsetsFrom sizes
+offsets-end at [] = omega arith
+offsets-end at (l ∷ ls) = omega (arith, offsets-end (at + l .size) ls)
+
+offsets-above : (at : ℕ) (ls : List Letter) (i : ℕ) → i ≤ length ls → at ≤ getD (offsetsFrom at ls) i 0
+unfolding offsetsFrom
+offsets-above at [] zero h = omega arith
+offsets-above at [] (suc i) h = absurd (omega arith)
+offsets-above at (l ∷ ls) zero h = omega arith
+offsets-above at (l ∷ ls) (suc i) h = omega (arith, offsets-above (at + l .size) ls i (omega arith))
+
+pub offsets-rise : (at : ℕ) (ls : List Letter) (i k : ℕ) → i ≤ k → k ≤ length ls → getD (offsetsFrom at ls) i 0 ≤ getD (offsetsFrom at ls) k 0
+unfolding offsetsFrom
+offsets-rise at [] i k h l = let (p, q) : (i ≡ 0) × (k ≡ 0) = (omega arith, omega arith) in rw (p, q) (omega arith)
+offsets-rise at (x ∷ ls) zero k h l = offsets-above at (x ∷ ls) k l
+offsets-rise at (x ∷ ls) (suc i) zero h l = absurd (omega arith)
+offsets-rise at (x ∷ ls) (suc i) (suc k) h l = offsets-rise (at + x .size) ls i k (omega arith) (omega arith)
 
 -- a write that the row has room for keeps its length
 pub over-length {ℓ} : {A : Type ℓ} (new old : List A) → length new ≤ length old → length (over new old) ≡ length old

@@ -103,6 +103,9 @@ pub ruleset ints = (arith, le-read, le-show, lt-read, lt-show, eq-read, eq-show,
 pub ≤ℤ-trans : {x y z : ℤ} → x ≤ℤ y → y ≤ℤ z → x ≤ℤ z
 ≤ℤ-trans h k = omega ints
 
+pub ≤ℤ-antisym : {x y : ℤ} → x ≤ℤ y → y ≤ℤ x → x ≡ y
+≤ℤ-antisym h k = omega ints
+
 pub +ℤ-mono : {x y : ℤ} (z : ℤ) → x ≤ℤ y → (x +ℤ z) ≤ℤ (y +ℤ z)
 +ℤ-mono {x} {y} z h = omega (ints, sum x z, sum y z)
 

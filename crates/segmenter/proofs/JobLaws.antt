@@ -27,13 +27,13 @@ use Rattle.lattice.proofs.LatticeLaws.{lattice-length}
 use Rattle.lattice.proofs.FillLaws.{firsts-length, lasts-length, lefts-length, costs-length, nexts-length}
 use Rattle.walk.specs.WalkBack.{walkBack}
 use Rattle.walk.proofs.WalkLaws.{words-fit, same-walk-back}
+use Rattle.chains.proofs.ChainLaws.{whole-walk}
 use Rattle.checks.specs.Job.{Job, JobRows, characterCount, candidateCount}
 use Rattle.checks.specs.Checks.{refused}
 use Rattle.checks.proofs.CheckLaws.{InputsPassed, RowsPassed, CandidatesPassed, passed, tested}
 use Rattle.walk.specs.WordRows.{wordsBy}
 use Rattle.segmenter.specs.Segment.{Outcome, outcome, givenOf, worked, segment}
 use Rattle.segmenter.specs.Answers.{latticeOf, endMark, Ranged, SameLengths, SameWords, latticeRows, Written, Answers}
-use Rattle.segmenter.proofs.LinkLaws.{whole-walk}
 
 -- the lattice accepts a job that passed its tests
 pub accepted : (j : Job) → InputsPassed j → CandidatesPassed j → Accepted (characterCount j) (givenOf j)

@@ -1,4 +1,3 @@
 pub mod WorkLaws
-pub mod LinkLaws
 pub mod JobLaws
 pub mod Examples

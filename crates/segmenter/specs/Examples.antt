@@ -8,7 +8,8 @@ use Rattle.ground.specs.Entry.{noneLink}
 use Rattle.ground.specs.Answer.{refusal, numbersOf}
 use Rattle.ground.specs.declared.answer.Numbers.{Numbers}
 use Rattle.checks.specs.Job.{Job, job, JobRows, jobRows}
-use Rattle.segmenter.specs.Segment.{segment}
+use Rattle.chains.specs.Chain.{chainCost, pathCost}
+use Rattle.segmenter.specs.Segment.{givenOf, segment}
 
 -- A job, the answer that is wanted, and what is to be written to each row from its start.
 pub record Example : Type 0 where
@@ -231,3 +232,25 @@ listed =
 -- The claim: of every case, what the rules leave is what is wanted.
 abbrev pub Hold : Type 0
 Hold = map got listed ≡ map wanted listed
+
+-- ---- chains and paths, added up by hand
+
+-- B's three paths: words 1 and 4; 0 and 3; 0, 2 and 4.
+abbrev pub pathsB : List (List ℕ)
+pathsB = (1 ∷ 4 ∷ []) ∷ (0 ∷ 3 ∷ []) ∷ (0 ∷ 2 ∷ 4 ∷ []) ∷ []
+
+-- What they cost as chains and as paths, in Normal and in C's mode, which charges 500 for word 1 and for word 3; and A's path of no words.
+abbrev pub CostsHold : Type 0
+CostsHold =
+    map (chainCost (givenOf (jobB 0 0 0 0 0))) pathsB
+    ∷ map (pathCost (givenOf (jobB 0 0 0 0 0))) pathsB
+    ∷ map (chainCost (givenOf (jobB 1 1 500 7 0))) pathsB
+    ∷ map (pathCost (givenOf (jobB 1 1 500 7 0))) pathsB
+    ∷ map (pathCost (givenOf (inMatrix 1 1 (pos 7 ∷ []) [] [] [] []))) ([] ∷ [])
+    ∷ []
+    ≡ (pos 220 ∷ pos 450 ∷ pos 620 ∷ [])
+    ∷ (pos 220 ∷ pos 450 ∷ pos 620 ∷ [])
+    ∷ (pos 720 ∷ pos 450 ∷ pos 620 ∷ [])
+    ∷ (pos 720 ∷ pos 950 ∷ pos 620 ∷ [])
+    ∷ (pos 7 ∷ [])
+    ∷ []

@@ -14,7 +14,7 @@ use Rattle.ground.specs.Entry.{noneLink}
 use Rattle.ground.specs.Answer.{refuse}
 use Rattle.ground.specs.declared.answer.Answer.{Answer}
 use Rattle.ground.specs.declared.answer.Answer.the-variants.{Done, ShortRow, BrokenLink}
-use Rattle.ground.proofs.RowLaws.{over-length}
+use Rattle.ground.proofs.RowLaws.{in-row, over-length}
 use Rattle.walk.specs.WalkBack.{endsThere, linkAt, follow, walkFrom, walkBack, Outcome, outcome, walkRefused, writtenUnless, walkBackAlone}
 use Rattle.walk.specs.WalkBack.{Follows, starts, goes-on, FollowedLink}
 use Rattle.walk.specs.Inner.{walkedOf, linked, Sure}
@@ -81,12 +81,6 @@ module _ (start end : List ℕ) where
 pub data Joined (start end : List ℕ) : ℕ → List ℕ → ℕ → Type 0 where
   none-left : {p : ℕ} → Joined start end p [] p
   one-more : {k q : ℕ} {ks : List ℕ} → getD start k 0 < getD end k 0 → Joined start end (getD end k 0) ks q → Joined start end (getD start k 0) (k ∷ ks) q
-
--- a link that stands in the row is the same whatever is taken where there is none
-pub in-row : (left : List ℕ) (entry d e : ℕ) → entry < length left → getD left entry d ≡ getD left entry e
-in-row [] entry d e h = absurd (omega arith)
-in-row (x ∷ left) zero d e h = refl
-in-row (x ∷ left) (suc entry) d e h = in-row left entry d e (omega arith)
 
 module _ (start end left : List ℕ) where
   -- one step of the walk, by what the link says

@@ -8,7 +8,8 @@ use lib.ListN.{getD}
 use Rattle.ground.specs.Entry.{noneLink}
 use Rattle.walk.specs.WalkBack.{linkAt}
 use Rattle.walk.specs.declared.walk_back.Link.the-variants.{ToCandidate}
-use Rattle.walk.proofs.WalkLaws.{in-row, Right, right}
+use Rattle.ground.proofs.RowLaws.{in-row}
+use Rattle.walk.proofs.WalkLaws.{Right, right}
 use Rattle.walk.proofs.Passes.{Counting, counting-none, counting-more, counting-done, counting-broken}
 use Rattle.walk.proofs.walk_back.count.Statement.{statement}
 use Rattle.walk.proofs.walk_back.count.Tie as tie

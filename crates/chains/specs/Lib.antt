@@ -1,0 +1,3 @@
+-- How to read these files: ground's specs/Lib.
+pub mod Chain
+pub mod Least
