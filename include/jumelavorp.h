@@ -66,7 +66,10 @@ jumelavorp_answer jumelavorp_characters(
  * left is the lowest-numbered entry that gives the least. The end mark starts
  * and ends at n; it is reached likewise, without extra and word cost, and is
  * never joined to itself. The words are the candidates on the way back from
- * the end mark along left.
+ * the end mark along left. They cover the text without gap or overlap, in no
+ * more words than characters, and no listed words that cover it cost less; of
+ * those that cost as little they are the ones that, compared from the last
+ * word to the first, have the lower candidate number where they first differ.
  *  - A word entry is ten bytes, little-endian: word id (32 bits), word cost
  *    (16 bits, signed), left id (16 bits), right id (16 bits).
  *  - The joint of an earlier entry with right id r and a later one with left

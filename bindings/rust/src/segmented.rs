@@ -9,7 +9,8 @@ use crate::rows::Filled;
 use crate::{ffi, Job, Kind, Lattice, Refusal, Rows};
 
 /// Cuts a job's text into words at the least cost, or says why it cannot be done. Of cuts that cost
-/// the same, the paper says which is taken.
+/// the same it takes the one that, compared from the last word to the first, has the lower
+/// candidate number where they first differ.
 ///
 /// What comes out borrows the rows, so no answer can be taken for that of a later call. Refused
 /// with [`Refusal::NoPath`], the lattice can still be seen: [`Rows::lattice`].
