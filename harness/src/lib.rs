@@ -3,11 +3,11 @@
 //! `library`, `model` and `check` have one module for each public operation.
 
 pub mod addresses;
+pub mod chains;
 pub mod check;
 pub mod jobs;
 pub mod library;
 pub mod model;
-pub mod paths;
 pub mod random;
 pub mod texts;
 pub mod walks;

@@ -1,17 +1,17 @@
-//! The whole job, held against the model, against the sums over all paths where there are few
+//! The whole job, held against the model, to demand 3 over all chains and paths where there are few
 //! candidates, and against the two other operations over its rows.
 
 use super::{Place, Row};
+use crate::chains::Chains;
 use crate::jobs::Job;
 use crate::library::segment::{Given, Lent, Rows};
 use crate::library::{self, Answer};
 use crate::model::segment::{named, word_id, Written};
 use crate::model::{self, NONE};
-use crate::paths;
 use crate::random::Random;
 
-/// Up to so many candidates all paths are gone through.
-const FEW: usize = 8;
+/// Up to so many candidates all chains and paths are gone through.
+const FEW: usize = 9;
 
 /// The rows that are written, between guards.
 type Guarded = Rows<Row<u32>, Row<u16>, Row<i32>, Row<u8>>;
@@ -34,8 +34,10 @@ pub struct Check {
     laid: Laid,
     rows: Guarded,
     before: Written,
+    after: Written,
     due: Written,
     seen: [u64; 14],
+    tied: u64,
 }
 
 impl Check {
@@ -45,8 +47,10 @@ impl Check {
             laid: Laid::default(),
             rows: Guarded::default(),
             before: Written::default(),
+            after: Written::default(),
             due: Written::default(),
             seen: [0; 14],
+            tied: 0,
         }
     }
 
@@ -73,9 +77,10 @@ impl Check {
         assert_eq!(answer, due, "{}", job.shown());
         self.laid.compare(job);
         self.rows.compare(&self.due, job);
+        self.rows.copy_to(&mut self.after);
         if answer.number == 0 || answer.number == 12 {
-            parts_agree(&given, &self.due, answer, job);
-            paths_agree(&given, answer, job);
+            parts_agree(&given, &self.after, answer, job);
+            self.hold_demand_3(job, answer);
         }
         assert!(self.is_kept(answer), "{}", job.shown());
         self.seen[answer.number as usize] += 1;
@@ -85,7 +90,7 @@ impl Check {
     /// Whether a refusal left what it has to leave: all rows, or in answer 12 the word rows; and
     /// an answer 0 the word places beyond the count.
     fn is_kept(&self, answer: Answer) -> bool {
-        let (before, after) = (&self.before, &self.due);
+        let (before, after) = (&self.before, &self.after);
         let count = answer.count as usize;
         let words = before.word_offset[count..] == after.word_offset[count..]
             && before.word_id[count..] == after.word_id[count..]
@@ -93,9 +98,18 @@ impl Check {
         words && (answer.number == 0 || answer.number == 12 || before == after)
     }
 
+    /// With few candidates, the answer and the rows that came with it over all chains and paths.
+    fn hold_demand_3(&mut self, job: &Job, answer: Answer) {
+        if job.candidates() <= FEW {
+            let chains = Chains::of(&job.given());
+            chains.hold(job, answer, &self.after);
+            self.tied += u64::from(chains.least_paths().count() > 1);
+        }
+    }
+
     /// The rows as the last case left them.
     pub fn written(&self) -> &Written {
-        &self.due
+        &self.after
     }
 
     /// How many cases were compared.
@@ -106,6 +120,11 @@ impl Check {
     /// How many of them had this answer number.
     pub fn seen(&self, number: usize) -> u64 {
         self.seen[number]
+    }
+
+    /// How many of them had few candidates and more than one path of least cost.
+    pub fn tied(&self) -> u64 {
+        self.tied
     }
 }
 
@@ -135,15 +154,6 @@ fn parts_agree(given: &Given, rows: &Written, answer: Answer, job: &Job) {
     assert_eq!(table, Answer::done(n, 0), "{}", job.shown());
     assert_eq!(offset, rows.offset[..n + 1], "{}", job.shown());
     assert_eq!(run, rows.run[..n + 1], "{}", job.shown());
-}
-
-/// The cost is the least of all paths, and 12 means that there is none.
-fn paths_agree(given: &Given, answer: Answer, job: &Job) {
-    if given.start.len() <= FEW {
-        let least = paths::costs(given).into_iter().min();
-        let found = (answer.number == 0).then_some(i64::from(answer.cost));
-        assert_eq!(found, least, "{}", job.shown());
-    }
 }
 
 impl Laid {

@@ -1,8 +1,9 @@
 //! The whole job. Every case compares the answer, all places of the ten rows that are written, the
 //! seven rows that are only read and the guards around all of them with the model, and where words
-//! come out the two other operations over the same rows; with few candidates also the sums over
-//! all paths. Every test counts its cases, so that none runs on nothing.
+//! come out the two other operations over the same rows; with few candidates it also holds demand 3
+//! over all chains and paths. Every test counts its cases, so that none runs on nothing.
 
+mod demand3;
 mod examples;
 mod faults;
 mod limits;
@@ -22,6 +23,35 @@ fn refused(number: u32) -> Answer {
 /// How many places of each row this job asks.
 fn asked(job: &Job) -> [usize; 10] {
     named(job.characters(), job.candidates())
+}
+
+/// Every list of so many of these values.
+fn every<T: Copy>(places: usize, values: &[T]) -> Vec<Vec<T>> {
+    let mut lists = vec![Vec::new()];
+    for _ in 0..places {
+        let with = |&value| {
+            lists
+                .iter()
+                .map(move |list: &Vec<T>| [&list[..], &[value]].concat())
+        };
+        lists = values.iter().flat_map(with).collect();
+    }
+    lists
+}
+
+/// Every list of c words within n characters, in the order of their starts.
+fn spans(n: u16, c: usize) -> Vec<Vec<(u16, u16)>> {
+    let words = |start| (start + 1..=n).map(move |end| (start, end));
+    let words: Vec<(u16, u16)> = (0..n).flat_map(words).collect();
+    let mut lists = every(c, &words);
+    lists.retain(|list| list.is_sorted_by_key(|span| span.0));
+    lists
+}
+
+/// Every text of n characters that are a kanji or a letter.
+fn texts(n: u16) -> Vec<String> {
+    let lists = every(n.into(), &['東', 'a']);
+    lists.into_iter().map(String::from_iter).collect()
 }
 
 /// The case with cost and words written out; the words by their candidate numbers.

@@ -1,37 +1,9 @@
 //! Every job of some few characters and candidates.
 
+use crate::{every, spans, texts};
 use harness::check::in_halves;
 use harness::check::segment::Check;
 use harness::jobs::{Candidate, Job};
-
-/// Every list of so many of these values.
-fn every<T: Copy>(places: usize, values: &[T]) -> Vec<Vec<T>> {
-    let mut lists = vec![Vec::new()];
-    for _ in 0..places {
-        let with = |&value| {
-            lists
-                .iter()
-                .map(move |list: &Vec<T>| [&list[..], &[value]].concat())
-        };
-        lists = values.iter().flat_map(with).collect();
-    }
-    lists
-}
-
-/// Every list of c words within n characters, in the order of their starts.
-fn spans(n: u16, c: usize) -> Vec<Vec<(u16, u16)>> {
-    let words = |start| (start + 1..=n).map(move |end| (start, end));
-    let words: Vec<(u16, u16)> = (0..n).flat_map(words).collect();
-    let mut lists = every(c, &words);
-    lists.retain(|list| list.is_sorted_by_key(|span| span.0));
-    lists
-}
-
-/// Every text of n characters that are a kanji or a letter.
-fn texts(n: u16) -> Vec<String> {
-    let lists = every(n.into(), &['東', 'a']);
-    lists.into_iter().map(String::from_iter).collect()
-}
 
 /// The work for every number of characters and of candidates up to 3, with half of the lists of
 /// spans in a second thread. Says how many cases there were, how many of answer 0 and of 12.
