@@ -19,9 +19,8 @@ use Rattle.lattice.specs.Rows.{lefts, costs, rows, Filled}
 use Rattle.lattice.specs.Accepted.{Accepted}
 use Rattle.lattice.proofs.LatticeLaws.{lattice-length}
 use Rattle.lattice.proofs.RuleLaws.{left-none}
-use Rattle.lattice.proofs.RowRules.{lefts-at, costs-at}
-use Rattle.lattice.proofs.FillLaws.{costs-length}
-use Rattle.lattice.proofs.OverLaws.{over-at}
+use Rattle.lattice.proofs.RowRules.{lefts-at}
+use Rattle.chains.proofs.ChainLaws.{held-cost}
 use Rattle.checks.specs.Job.{JobRows, jobRows}
 use Rattle.segmenter.specs.Segment.{outcome, worked}
 use Rattle.walk.specs.Inner.{endReached, Ended}
@@ -50,11 +49,7 @@ module _ (n : ℕ) (g : Given) (ok : Accepted n g) where
 
   -- the cost that stands at its place is its cost
   pub end-cost : (old : List ℤ) → getD (over (costs (lattice n g)) old) (count g + 1) (pos 0) ≡ entryNumbered (lattice n g) (suc (count g)) .cost
-  end-cost old =
-      let e : count g + 1 ≡ suc (count g) = omega arith in
-      over-at (costs (lattice n g)) old (count g + 1) (pos 0) (omega (arith, costs-length (lattice n g), lattice-length g n))
-      ∙ ap (λ (i : ℕ). getD (costs (lattice n g)) i (pos 0)) e
-      ∙ costs-at (lattice n g) (suc (count g)) there
+  end-cost old = let e : count g + 1 ≡ suc (count g) = omega arith in rw e (held-cost n g ok old (suc (count g)) (omega arith))
 
 -- the steps, put together
 module _ (ls : List Letter) (kind : List ℕ) (g : Given) (r : JobRows) (ok : Accepted (length ls) g) where
