@@ -109,6 +109,20 @@ impl<T: Place> Row<T> {
     }
 }
 
+/// Every list of so many of these values.
+pub fn every<T: Copy>(places: usize, values: &[T]) -> Vec<Vec<T>> {
+    let mut lists = vec![Vec::new()];
+    for _ in 0..places {
+        let with = |&value| {
+            lists
+                .iter()
+                .map(move |list: &Vec<T>| [&list[..], &[value]].concat())
+        };
+        lists = values.iter().flat_map(with).collect();
+    }
+    lists
+}
+
 /// Does both halves of a work, the second in a thread of its own.
 pub fn in_halves<R: Send>(half: impl Fn(usize) -> R + Sync) -> [R; 2] {
     std::thread::scope(|scope| {

@@ -2,8 +2,8 @@
 //! rows that are only read and the guards around all four with the model; every test counts its
 //! cases, so that none runs on nothing.
 
-use harness::check::in_halves;
 use harness::check::walk_back::Check;
+use harness::check::{every, in_halves};
 use harness::library::Answer;
 use harness::model::{MOST_CANDIDATES, MOST_CHARACTERS};
 use harness::random::Random;
@@ -17,20 +17,6 @@ fn done(count: usize) -> Answer {
 
 fn refused(number: u32) -> Answer {
     Answer::refused(number, 0)
-}
-
-/// Every list of so many of these values.
-fn every(places: usize, values: &[u16]) -> Vec<Vec<u16>> {
-    let mut lists = vec![Vec::new()];
-    for _ in 0..places {
-        let with = |&value| {
-            lists
-                .iter()
-                .map(move |list: &Vec<u16>| [&list[..], &[value]].concat())
-        };
-        lists = values.iter().flat_map(with).collect();
-    }
-    lists
 }
 
 /// Every entry number of c candidates, the first one that is none of them, and "none".

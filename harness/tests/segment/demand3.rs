@@ -1,10 +1,10 @@
 //! Demand 3 and the rule for ties, on jobs of few different costs: very often more than one path has
 //! the least.
 
-use crate::{every, spans, texts};
+use crate::{spans, texts};
 use harness::chains::Chains;
-use harness::check::in_halves;
 use harness::check::segment::Check;
+use harness::check::{every, in_halves};
 use harness::jobs::Job;
 use harness::model::segment::word_id;
 use harness::model::NONE;

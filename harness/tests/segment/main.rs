@@ -10,6 +10,7 @@ mod limits;
 mod many;
 mod small;
 
+use harness::check::every;
 use harness::check::segment::Check;
 use harness::jobs::Job;
 use harness::library::Answer;
@@ -23,20 +24,6 @@ fn refused(number: u32) -> Answer {
 /// How many places of each row this job asks.
 fn asked(job: &Job) -> [usize; 10] {
     named(job.characters(), job.candidates())
-}
-
-/// Every list of so many of these values.
-fn every<T: Copy>(places: usize, values: &[T]) -> Vec<Vec<T>> {
-    let mut lists = vec![Vec::new()];
-    for _ in 0..places {
-        let with = |&value| {
-            lists
-                .iter()
-                .map(move |list: &Vec<T>| [&list[..], &[value]].concat())
-        };
-        lists = values.iter().flat_map(with).collect();
-    }
-    lists
 }
 
 /// Every list of c words within n characters, in the order of their starts.

@@ -1,8 +1,8 @@
 //! Every job of some few characters and candidates.
 
-use crate::{every, spans, texts};
-use harness::check::in_halves;
+use crate::{spans, texts};
 use harness::check::segment::Check;
+use harness::check::{every, in_halves};
 use harness::jobs::{Candidate, Job};
 
 /// The work for every number of characters and of candidates up to 3, with half of the lists of
