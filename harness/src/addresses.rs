@@ -118,6 +118,15 @@ pub fn long(random: &mut Random, address: fn(&mut Random) -> String) -> String {
     upto.take(MOST_CHARACTERS).map(|(_, c)| c).collect()
 }
 
+/// So many characters of Japanese addresses, one after the other.
+pub fn of_characters(random: &mut Random, n: usize) -> String {
+    let mut text = Vec::new();
+    while text.len() < n {
+        text.extend(japanese(random).chars());
+    }
+    text.into_iter().take(n).collect()
+}
+
 /// One short address of 18 characters.
 pub fn short(random: &mut Random) -> String {
     let text = japanese(random) + &japanese(random);

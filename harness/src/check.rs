@@ -1,6 +1,7 @@
 //! Calls the library on guarded rows and compares everything it could have changed.
 
 pub mod characters;
+pub mod lent;
 pub mod segment;
 pub mod walk_back;
 

@@ -1,12 +1,16 @@
 //! Makers of jobs, good and damaged.
 
+use crate::addresses;
+use crate::check::every;
 use crate::library::segment::{Given, Penalty};
 use crate::model::characters::is_kanji;
+use crate::model::segment::{ids, word_cost, word_id};
+use crate::model::MOST_CHARACTERS;
 use crate::random::Random;
 use crate::texts::{self, Family, FAMILIES};
 
 /// What a job is given.
-#[derive(Clone, Debug, Default)]
+#[derive(Clone, Debug, Default, PartialEq, Eq)]
 pub struct Job {
     pub text: Vec<u8>,
     pub start: Vec<u16>,
@@ -103,6 +107,22 @@ impl Job {
         self.entry.extend(candidate.right_id.to_le_bytes());
     }
 
+    /// Candidate k, with the fields of its word entry.
+    pub fn candidate(&self, k: usize) -> Candidate {
+        let given = self.given();
+        let [left_id, right_id] = ids(&given, k);
+        Candidate {
+            start: self.start[k],
+            end: self.end[k],
+            kind: self.kind[k],
+            extra: self.extra[k],
+            id: word_id(&given, k),
+            cost: word_cost(&given, k),
+            left_id,
+            right_id,
+        }
+    }
+
     pub fn set_left_id(&mut self, k: usize, id: u16) {
         self.entry[10 * k + 6..10 * k + 8].copy_from_slice(&id.to_le_bytes());
     }
@@ -164,6 +184,15 @@ impl Job {
     }
 }
 
+/// Every list of c words within n characters, in the order of their starts.
+pub fn every_list(n: u16, c: usize) -> Vec<Vec<(u16, u16)>> {
+    let words = |start| (start + 1..=n).map(move |end| (start, end));
+    let words: Vec<(u16, u16)> = (0..n).flat_map(words).collect();
+    let mut lists = every(c, &words);
+    lists.retain(|list| list.is_sorted_by_key(|span| span.0));
+    lists
+}
+
 /// What is special about a job.
 #[derive(Clone, Copy, Debug, PartialEq, Eq)]
 pub enum Make {
@@ -206,7 +235,78 @@ pub fn job(random: &mut Random, make: Make, n: usize, c: usize) -> Job {
         0 => Vec::new(),
         _ => spans(random, make, &text, n, c),
     };
-    for &(start, end) in &spans {
+    fill(random, make, job, &spans)
+}
+
+/// A job of n characters with from 1 to 40 candidates at each position.
+pub fn dense(random: &mut Random, n: usize) -> Job {
+    let make = random.one_of(&[Make::Any, Make::Ties, Make::Extremes]);
+    let mut job = Job::new(text(random, make, n).as_bytes());
+    lay_matrix(random, make, &mut job);
+    let mut spans = Vec::new();
+    for start in 0..n {
+        for _ in 0..1 + random.below(40) {
+            let end = start + 1 + random.below(n - start);
+            spans.push((start as u16, end as u16));
+        }
+    }
+    fill(random, make, job, &spans)
+}
+
+/// A job as a service has it, in Normal: n characters of addresses, and c candidates, which are not
+/// fewer. Its matrix is `address_matrix` of so many ids, lent apart: many jobs share one.
+pub fn address(random: &mut Random, n: usize, c: usize, ids: usize) -> Job {
+    let mut job = Job::new(addresses::of_characters(random, n).as_bytes());
+    let mut spans: Vec<(usize, usize)> = (0..n).map(|start| (start, start + 1)).collect();
+    while spans.len() < c {
+        let start = random.below(n);
+        spans.push((start, n.min(start + 1 + random.below(5))));
+    }
+    spans.sort_by_key(|span| span.0);
+    for (start, end) in spans {
+        let extra = match random.below(8) {
+            0 => random.below(3_000) as i16,
+            _ => 0,
+        };
+        job.push(Candidate {
+            start: start as u16,
+            end: end as u16,
+            kind: random.below(3) as u8,
+            extra,
+            id: random.bits() as u32,
+            cost: random.below(6_000) as i16,
+            left_id: random.below(ids) as u16,
+            right_id: random.below(ids) as u16,
+        });
+    }
+    job
+}
+
+/// The values of a matrix of so many left and right ids.
+pub fn address_matrix(random: &mut Random, ids: usize) -> Vec<i16> {
+    let joint = |_| random.below(4_000) as i16 - 1_500;
+    (0..ids * ids).map(joint).collect()
+}
+
+/// One word for each of 4,096 characters, with this cost, extra and joint everywhere.
+pub fn at_the_end(letter: char, cost: i16) -> Job {
+    let text = String::from_iter([letter; MOST_CHARACTERS]);
+    let mut job = Job::new(text.as_bytes()).matrix(1, 1, &[cost]);
+    for start in 0..MOST_CHARACTERS as u16 {
+        job.push(Candidate {
+            start,
+            end: start + 1,
+            extra: cost,
+            cost,
+            ..Candidate::default()
+        });
+    }
+    job
+}
+
+/// The job with candidates of these spans and a mode.
+fn fill(random: &mut Random, make: Make, mut job: Job, spans: &[(u16, u16)]) -> Job {
+    for &(start, end) in spans {
         let candidate = Candidate {
             start,
             end,
@@ -223,7 +323,7 @@ pub fn job(random: &mut Random, make: Make, n: usize, c: usize) -> Job {
         Make::Lengths => 1,
         _ => random.below(2) as u32,
     };
-    job.penalty = penalty(random, make, &spans);
+    job.penalty = penalty(random, make, spans);
     job
 }
 

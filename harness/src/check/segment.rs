@@ -1,10 +1,10 @@
 //! The whole job, held against the model, to demand 3 over all chains and paths where there are few
 //! candidates, and against the two other operations over its rows.
 
-use super::{Place, Row};
+use super::lent::{Guarded, Laid};
 use crate::chains::Chains;
 use crate::jobs::Job;
-use crate::library::segment::{Given, Lent, Rows};
+use crate::library::segment::Given;
 use crate::library::{self, Answer};
 use crate::model::segment::{named, word_id, Written};
 use crate::model::{self, NONE};
@@ -12,21 +12,6 @@ use crate::random::Random;
 
 /// Up to so many candidates all chains and paths are gone through.
 const FEW: usize = 9;
-
-/// The rows that are written, between guards.
-type Guarded = Rows<Row<u32>, Row<u16>, Row<i32>, Row<u8>>;
-
-/// The rows that are only read, between guards.
-#[derive(Default)]
-struct Laid {
-    text: Row<u8>,
-    start: Row<u16>,
-    end: Row<u16>,
-    kind: Row<u8>,
-    extra: Row<i16>,
-    entry: Row<u8>,
-    matrix: Row<i16>,
-}
 
 /// Buffers that are used again from case to case, and counts of what was seen.
 pub struct Check {
@@ -75,8 +60,11 @@ impl Check {
         let answer = library::segment::segment(self.laid.given(&given), self.rows.lent());
 
         assert_eq!(answer, due, "{}", job.shown());
-        self.laid.compare(job);
-        self.rows.compare(&self.due, job);
+        let difference = self.laid.difference(job);
+        let difference = difference.or_else(|| self.rows.difference(&self.due));
+        if let Some(difference) = difference {
+            panic!("{difference}; {}", job.shown());
+        }
         self.rows.copy_to(&mut self.after);
         if answer.number == 0 || answer.number == 12 {
             parts_agree(&given, &self.after, answer, job);
@@ -154,114 +142,4 @@ fn parts_agree(given: &Given, rows: &Written, answer: Answer, job: &Job) {
     assert_eq!(table, Answer::done(n, 0), "{}", job.shown());
     assert_eq!(offset, rows.offset[..n + 1], "{}", job.shown());
     assert_eq!(run, rows.run[..n + 1], "{}", job.shown());
-}
-
-impl Laid {
-    /// Around the rows lie a byte that would complete a character cut short, a candidate that would
-    /// be right, word entries that cost little and joints that cost nothing or very little.
-    fn lay_out(&mut self, job: &Job, salt: u64) {
-        let tempting = if salt & 1 == 0 { -32_768 } else { 0 };
-        self.text
-            .lay_out(&job.text, if salt & 2 == 0 { 0x80 } else { 0xBF });
-        self.start
-            .lay_out(&job.start, job.start.last().copied().unwrap_or(0));
-        self.end.lay_out(&job.end, job.characters() as u16);
-        self.kind.lay_out(&job.kind, 0);
-        self.extra.lay_out(&job.extra, tempting);
-        self.entry.lay_out(&job.entry, 0);
-        self.matrix.lay_out(&job.matrix, tempting);
-    }
-
-    /// The same job from between the guards.
-    fn given(&self, given: &Given) -> Given<'_> {
-        Given {
-            text: self.text.lent(),
-            start: self.start.lent(),
-            end: self.end.lent(),
-            kind: self.kind.lent(),
-            extra: self.extra.lent(),
-            entry: self.entry.lent(),
-            matrix: self.matrix.lent(),
-            ..*given
-        }
-    }
-
-    fn compare(&self, job: &Job) {
-        compare("text", &self.text, &job.text, job);
-        compare("start", &self.start, &job.start, job);
-        compare("end", &self.end, &job.end, job);
-        compare("kind", &self.kind, &job.kind, job);
-        compare("extra", &self.extra, &job.extra, job);
-        compare("entry", &self.entry, &job.entry, job);
-        compare("matrix", &self.matrix, &job.matrix, job);
-    }
-}
-
-impl Guarded {
-    /// Each row has a pattern of its own.
-    fn refill(&mut self, lengths: [usize; 10], salt: u64) {
-        let [offset, run, first, last, left, cost, next, words @ ..] = lengths;
-        self.offset.refill(offset, salt);
-        self.run.refill(run, salt >> 4);
-        self.first.refill(first, salt >> 8);
-        self.last.refill(last, salt >> 12);
-        self.left.refill(left, salt >> 16);
-        self.cost.refill(cost, salt >> 20);
-        self.next.refill(next, salt >> 24);
-        self.word_offset.refill(words[0], salt >> 28);
-        self.word_id.refill(words[1], salt >> 32);
-        self.word_kind.refill(words[2], salt >> 36);
-    }
-
-    fn copy_to(&self, rows: &mut Written) {
-        copy(&self.offset, &mut rows.offset);
-        copy(&self.run, &mut rows.run);
-        copy(&self.first, &mut rows.first);
-        copy(&self.last, &mut rows.last);
-        copy(&self.left, &mut rows.left);
-        copy(&self.cost, &mut rows.cost);
-        copy(&self.next, &mut rows.next);
-        copy(&self.word_offset, &mut rows.word_offset);
-        copy(&self.word_id, &mut rows.word_id);
-        copy(&self.word_kind, &mut rows.word_kind);
-    }
-
-    fn lent(&mut self) -> Lent<'_> {
-        Rows {
-            offset: self.offset.lent_mut(),
-            run: self.run.lent_mut(),
-            first: self.first.lent_mut(),
-            last: self.last.lent_mut(),
-            left: self.left.lent_mut(),
-            cost: self.cost.lent_mut(),
-            next: self.next.lent_mut(),
-            word_offset: self.word_offset.lent_mut(),
-            word_id: self.word_id.lent_mut(),
-            word_kind: self.word_kind.lent_mut(),
-        }
-    }
-
-    fn compare(&self, due: &Written, job: &Job) {
-        compare("offset", &self.offset, &due.offset, job);
-        compare("run", &self.run, &due.run, job);
-        compare("first", &self.first, &due.first, job);
-        compare("last", &self.last, &due.last, job);
-        compare("left", &self.left, &due.left, job);
-        compare("cost", &self.cost, &due.cost, job);
-        compare("next", &self.next, &due.next, job);
-        compare("word offset", &self.word_offset, &due.word_offset, job);
-        compare("word id", &self.word_id, &due.word_id, job);
-        compare("word kind", &self.word_kind, &due.word_kind, job);
-    }
-}
-
-fn copy<T: Place>(row: &Row<T>, to: &mut Vec<T>) {
-    to.clear();
-    to.extend_from_slice(row.lent());
-}
-
-fn compare<T: Place>(name: &str, row: &Row<T>, expected: &[T], job: &Job) {
-    if let Some(difference) = row.difference(expected) {
-        panic!("{name} row, {}: {difference}", job.shown());
-    }
 }

@@ -19,7 +19,7 @@ pub struct Given<'a> {
 }
 
 /// The four numbers of Decompose.
-#[derive(Clone, Copy, Debug, Default)]
+#[derive(Clone, Copy, Debug, Default, PartialEq, Eq)]
 pub struct Penalty {
     pub kanji_threshold: u32,
     pub kanji_price: u32,

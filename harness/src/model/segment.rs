@@ -132,12 +132,12 @@ pub fn word_id(given: &Given, k: usize) -> u32 {
     u32::from_le_bytes(field(given, k, 0))
 }
 
-fn word_cost(given: &Given, k: usize) -> i16 {
+pub fn word_cost(given: &Given, k: usize) -> i16 {
     i16::from_le_bytes(field(given, k, 4))
 }
 
 /// Left id and right id.
-fn ids(given: &Given, k: usize) -> [u16; 2] {
+pub fn ids(given: &Given, k: usize) -> [u16; 2] {
     [6, 8].map(|from| u16::from_le_bytes(field(given, k, from)))
 }
 

@@ -1,11 +1,11 @@
 //! Demand 3 and the rule for ties, on jobs of few different costs: very often more than one path has
 //! the least.
 
-use crate::{spans, texts};
+use crate::texts;
 use harness::chains::Chains;
 use harness::check::segment::Check;
 use harness::check::{every, in_halves};
-use harness::jobs::Job;
+use harness::jobs::{every_list, Job};
 use harness::model::segment::word_id;
 use harness::model::NONE;
 use harness::random::Random;
@@ -69,7 +69,7 @@ fn for_each_list(seed: u64, work: impl Fn(&mut Counting, u16, &[(u16, u16)]) + S
     counted(seed, |counting, half| {
         for n in 2..=3 {
             for c in 0..=4 {
-                for list in spans(n, c).iter().skip(half).step_by(2) {
+                for list in every_list(n, c).iter().skip(half).step_by(2) {
                     work(counting, n, list);
                 }
             }

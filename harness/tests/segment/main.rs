@@ -26,15 +26,6 @@ fn asked(job: &Job) -> [usize; 10] {
     named(job.characters(), job.candidates())
 }
 
-/// Every list of c words within n characters, in the order of their starts.
-fn spans(n: u16, c: usize) -> Vec<Vec<(u16, u16)>> {
-    let words = |start| (start + 1..=n).map(move |end| (start, end));
-    let words: Vec<(u16, u16)> = (0..n).flat_map(words).collect();
-    let mut lists = every(c, &words);
-    lists.retain(|list| list.is_sorted_by_key(|span| span.0));
-    lists
-}
-
 /// Every text of n characters that are a kanji or a letter.
 fn texts(n: u16) -> Vec<String> {
     let lists = every(n.into(), &['東', 'a']);

@@ -3,7 +3,7 @@
 use crate::{asked, gives};
 use harness::check::in_halves;
 use harness::check::segment::Check;
-use harness::jobs::{self, Candidate, Job, Make, MAKES};
+use harness::jobs::{self, Job, Make, MAKES};
 use harness::model::segment::{GREATEST_COST, LEAST_COST};
 use harness::model::{MOST_CANDIDATES, MOST_CHARACTERS};
 use harness::random::Random;
@@ -112,31 +112,15 @@ fn random_ties() {
     assert!(check.tied() >= 10_000, "{}", check.tied());
 }
 
-/// One word for each of 4,096 characters, with this cost, extra and joint everywhere.
-fn at_the_end(letter: char, cost: i16) -> Job {
-    let text = String::from_iter([letter; MOST_CHARACTERS]);
-    let mut job = Job::new(text.as_bytes()).matrix(1, 1, &[cost]);
-    for start in 0..MOST_CHARACTERS as u16 {
-        job.push(Candidate {
-            start,
-            end: start + 1,
-            extra: cost,
-            cost,
-            ..Candidate::default()
-        });
-    }
-    job
-}
-
 // Both ends of the cost range are attained.
 #[test]
 fn both_ends_of_the_cost_range() {
     let mut check = Check::new(139);
     let words = Vec::from_iter(0..MOST_CHARACTERS);
     for letter in ['東', 'a', '𠀀'] {
-        let highest = at_the_end(letter, 32_767).decompose([0, 32_767, 0, 32_767]);
+        let highest = jobs::at_the_end(letter, 32_767).decompose([0, 32_767, 0, 32_767]);
         gives(&mut check, &highest, 536_887_295, &words);
-        let lowest = at_the_end(letter, -32_768);
+        let lowest = jobs::at_the_end(letter, -32_768);
         gives(&mut check, &lowest, -402_685_952, &words);
     }
     assert_eq!([LEAST_COST, GREATEST_COST], [-402_685_952, 536_887_295]);

@@ -1,9 +1,9 @@
 //! Every job of some few characters and candidates.
 
-use crate::{spans, texts};
+use crate::texts;
 use harness::check::segment::Check;
 use harness::check::{every, in_halves};
-use harness::jobs::{Candidate, Job};
+use harness::jobs::{every_list, Candidate, Job};
 
 /// The work for every number of characters and of candidates up to 3, with half of the lists of
 /// spans in a second thread. Says how many cases there were, how many of answer 0 and of 12.
@@ -12,7 +12,7 @@ fn for_each_list(seed: u64, work: impl Fn(&mut Check, u16, &[(u16, u16)]) + Sync
         let mut check = Check::new(seed + half as u64);
         for n in 0..=3 {
             for c in 0..=3 {
-                for list in spans(n, c).iter().skip(half).step_by(2) {
+                for list in every_list(n, c).iter().skip(half).step_by(2) {
                     work(&mut check, n, list);
                 }
             }
