@@ -267,6 +267,13 @@ first-none f from (suc many) e k low high =
     go true q here later = ap f (sym (eqb-true from k q)) ∙ here
     go false q here later = let other = eqb-false from k q in later (omega arith)
 
+-- Where none of those is refused, there is none.
+pub none-first : (f : ℕ → Option Answer) (from many : ℕ) → ((k : ℕ) → from ≤ k → k < from + many → f k ≡ none) → firstRefused f from many ≡ none
+unfolding firstRefused
+none-first f from zero each = refl
+none-first f from (suc many) each =
+    or-none _ _ (each from (omega arith) (omega arith)) ∙ none-first f (suc from) many (λ k low high. each k (omega arith) (omega arith))
+
 -- The first refusal from k on is candidate k's, or else the first from the next on.
 pub first-step : (f : ℕ → Option Answer) (k c : ℕ) → k < c → firstRefused f k (c - k) ≡ orElse (f k) (firstRefused f (k + 1) (c - (k + 1)))
 unfolding firstRefused

@@ -11,6 +11,8 @@ use ground::matrix::SIZE_LIMIT;
 use ground::text;
 use ground::text::Checked;
 ghost use mathlib.Core.Path.{_≡_};
+ghost use mathlib.Core.Bool.{true};
+ghost use mathlib.Core.Option.{none};
 ghost use Prim.Native.Nat.{_+_, _*_, _≤_, _<_};
 ghost use lib.ListN.{length};
 ghost use Rattle.ground.specs.Limits.{characterLimit, candidateLimit};
@@ -20,6 +22,7 @@ ghost use Rattle.checks.specs.Job.{job};
 ghost use Rattle.checks.specs.Checks.{badSize, badMatrix, badMode, modeOf, inputRefused};
 ghost use Rattle.checks.specs.Checks.{tooShort, badKind, belowPrevious, badSpan, badId, candidateRefused, candidatesRefused};
 ghost use Rattle.checks.specs.Inner.{verdictOf, namedBy, inputsBy};
+ghost use Rattle.checks.specs.Inner.{NoneAbove, inRow, flagOf, notAbove, outOfOrder, leftId, rightId};
 
 // What tests tell: none holds, or the answer of the first that does.
 pub enum Verdict {
@@ -305,8 +308,8 @@ fn check_candidate(
     Verdict::Fine
 }
 
-// The tests of all candidates, from number 0.
-pub fn check_candidates(
+// The first refusal, candidate by candidate from number 0.
+fn first_refused(
     n: usize,
     start: &[u16],
     end: &[u16],
@@ -330,4 +333,158 @@ pub fn check_candidates(
         k += 1;
     }
     Verdict::Fine
+}
+
+// The sweep: tests 8 to 11 of all candidates, row by row. It says only whether one fails, so that each loop below can run to its end
+// and choose values, not ways: such loops become vector instructions.
+fn higher_kind(a: u8, b: u8) -> u8
+    ensures { λ r. ⌜ (a ≤ r) × (b ≤ r) ⌝ }
+{
+    if a < b { b } else { a }
+}
+
+fn higher(a: u16, b: u16) -> u16
+    ensures { λ r. ⌜ (a ≤ r) × (b ≤ r) ⌝ }
+{
+    if a < b { b } else { a }
+}
+
+// 1 if a test holds.
+fn flag(test: bool) -> u16
+    ensures { λ r. ⌜ r ≡ flagOf test ⌝ }
+{
+    if test { 1 } else { 0 }
+}
+
+// The highest kind (test 8).
+fn highest_kind(kind: &[u8]) -> u8
+    ensures { λ r. ⌜ NoneAbove (inRow (now (kind .entry))) (length (now (kind .entry))) r ⌝ }
+{
+    let mut highest = 0;
+    let mut i = 0;
+    while i < kind.len() {
+        highest = higher_kind(highest, kind[i]);
+        i += 1;
+    }
+    highest
+}
+
+// Not 0 if a start is below the previous one (test 9).
+fn any_below_previous(start: &[u16]) -> u16
+    ensures { λ r. ⌜ NoneAbove (outOfOrder (now (start .entry))) (length (now (start .entry))) r ⌝ }
+{
+    let mut any = 0;
+    let mut i = 1;
+    while i < start.len() {
+        any = higher(any, flag(start[i] < start[i - 1]));
+        i += 1;
+    }
+    any
+}
+
+// Not 0 if an end is not above its start (test 10).
+fn any_not_above(start: &[u16], end: &[u16]) -> u16
+    requires { ⌜ length (now end) ≡ length (now start) ⌝ }
+    ensures { λ r. ⌜ NoneAbove (notAbove (now (start .entry)) (now (end .entry))) (length (now (start .entry))) r ⌝ }
+{
+    let mut any = 0;
+    let mut i = 0;
+    while i < start.len() {
+        any = higher(any, flag(end[i] <= start[i]));
+        i += 1;
+    }
+    any
+}
+
+// The highest end (test 10).
+fn highest_end(end: &[u16]) -> u16
+    ensures { λ r. ⌜ NoneAbove (inRow (now (end .entry))) (length (now (end .entry))) r ⌝ }
+{
+    let mut highest = 0;
+    let mut i = 0;
+    while i < end.len() {
+        highest = higher(highest, end[i]);
+        i += 1;
+    }
+    highest
+}
+
+// A left and a right id.
+struct Ids {
+    left: u16,
+    right: u16,
+}
+
+// The highest ids of the first c candidates (test 11).
+fn highest_ids(entry: &[u8], c: usize) -> Ids
+    requires { ⌜ length (now entry) ≡ entryBytes * c ⌝ }
+    ensures { λ r. ⌜ NoneAbove (leftId (now (entry .entry))) c (r .left) × NoneAbove (rightId (now (entry .entry))) c (r .right) ⌝ }
+{
+    let mut left = 0;
+    let mut right = 0;
+    let mut i = 0;
+    while i < c {
+        let word = Entry::read(entry, i);
+        left = higher(left, word.left_id);
+        right = higher(right, word.right_id);
+        i += 1;
+    }
+    Ids { left, right }
+}
+
+// The whole sweep. It may miss nothing: where it says true, no candidate is refused.
+fn all_pass(
+    n: usize,
+    start: &[u16],
+    end: &[u16],
+    kind: &[u8],
+    entry: &[u8],
+    height: u32,
+    width: u32,
+) -> bool
+    requires { ⌜
+        (length (now end) ≡ length (now start)) × (length (now kind) ≡ length (now start))
+        × (length (now entry) ≡ entryBytes * length (now start))
+        ⌝ }
+    ensures { λ r. ⌜ (r ≡ true → candidatesRefused n (now (start .entry)) (now (end .entry)) (now (kind .entry)) (now (entry .entry)) height width ≡ none) ⌝ }
+{
+    if bad_kind(highest_kind(kind)) {
+        return false;
+    }
+    if any_below_previous(start) != 0 {
+        return false;
+    }
+    if any_not_above(start, end) != 0 {
+        return false;
+    }
+    if n < highest_end(end) as usize {
+        return false;
+    }
+    let ids = highest_ids(entry, start.len());
+    if height <= ids.left as u32 {
+        return false;
+    }
+    (ids.right as u32) < width
+}
+
+// The tests of all candidates. Nearly every job passes: one by one only if the sweep finds something.
+pub fn check_candidates(
+    n: usize,
+    start: &[u16],
+    end: &[u16],
+    kind: &[u8],
+    entry: &[u8],
+    height: u32,
+    width: u32,
+) -> Verdict
+    requires { ⌜
+        (length (now end) ≡ length (now start)) × (length (now kind) ≡ length (now start))
+        × (length (now entry) ≡ entryBytes * length (now start)) × (length (now start) ≤ candidateLimit)
+        ⌝ }
+    ensures { λ r. ⌜ r ≡ verdictOf (candidatesRefused n (now (start .entry)) (now (end .entry)) (now (kind .entry)) (now (entry .entry)) height width) ⌝ }
+{
+    if all_pass(n, start, end, kind, entry, height, width) {
+        return Verdict::Fine;
+    }
+    first_refused(n, start, end, kind, entry, height, width)
 }

@@ -10,7 +10,7 @@ use lib.Dec.{leb, ltb, eqb}
 use lib.ListN.{length, drop, getD}
 use lib.Seq.{drop-cons}
 use borrow.Author.Tests.{leb-true, ltb-true, eqb-true}
-use Rattle.ground.specs.Text.{leads, leadRow, isLead, within}
+use Rattle.ground.specs.Text.{lead, leads, leadRow, isLead, within}
 use Rattle.ground.specs.Filling.{sizeByLead}
 use Rattle.ground.specs.declared.text.Lead.{Lead}
 use Rattle.ground.specs.declared.text.LeadFound.the-variants.{Row}
@@ -81,6 +81,15 @@ only (first ∷ rows) a byte row m e =
 pub row-exact : (byte : ℕ) (row : Lead) → List·Memᴰ row leads → isLead row byte ≡ true → leadRow leads byte ≡ Row row
 unfolding leads
 row-exact byte row m e = only leads refl byte row m e
+
+-- so the row E1 to EC is found at once
+abbrev pub common : Lead
+common = lead 0xe1 0xec 0x80 0xbf 3
+
+pub common-found : (byte : ℕ) → isLead common byte ≡ true → leadRow leads byte ≡ Row common
+unfolding leads
+common-found byte e =
+    row-exact byte common (List·Memᴰ·tail (List·Memᴰ·tail (List·Memᴰ·tail (List·Memᴰ·head refl)))) e
 
 -- The table's rule: a row's length is from 1 to 4, and its first and its last lead byte tell it.
 rule : Lead → Bool

@@ -120,6 +120,16 @@ pub six-next : (bytes : List ℕ) (k i code : ℕ) → i < length bytes
 unfolding sixBits
 six-next bytes k i code h = ap (λ (l : List ℕ). sixBits code l) (take-drop k i bytes h)
 
+-- a character of one byte, or of two, has a code point below 800
+pub code-one : (bytes : List ℕ) → getD bytes 0 0 < 0x80 → letterOfSize bytes 1 .code < 0x800
+unfolding sixBits
+code-one bytes h = omega arith
+
+pub code-two : (bytes : List ℕ) → 2 ≤ length bytes → letterOfSize bytes 2 .code < 0x800
+unfolding sixBits
+code-two bytes h =
+    omega (arith, code-sized bytes 2 (omega arith) h ∙ six-next bytes 0 1 (getD bytes 0 0 % 32) (omega arith))
+
 -- a character of a text ends within it
 pub letter-ends : (text : List ℕ) (at : ℕ) (letter : Letter) → letterAt (drop at text) ≡ Whole letter → at ≤ length text
     → (1 ≤ letter .size) × (at + letter .size ≤ length text)

@@ -23,7 +23,7 @@ fn wide(x: u8) -> u16
 }
 
 // Two bytes, the lower one first.
-fn two(bytes: &[u8], i: usize) -> u16
+pub fn two(bytes: &[u8], i: usize) -> u16
     requires { ⌜ i + 1 < length (now bytes) ⌝ }
     ensures { λ r. ⌜ r ≡ u16At (now (bytes .entry)) i ⌝ }
 {
@@ -31,7 +31,7 @@ fn two(bytes: &[u8], i: usize) -> u16
 }
 
 // Four bytes, the lowest one first.
-fn four(bytes: &[u8], i: usize) -> u32
+pub fn four(bytes: &[u8], i: usize) -> u32
     requires { ⌜ i + 3 < length (now bytes) ⌝ }
     ensures { λ r. ⌜ r ≡ u32At (now (bytes .entry)) i ⌝ }
 {

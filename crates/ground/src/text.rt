@@ -1,7 +1,7 @@
 // The text (document 01, piece 2): UTF-8 by the table of lead bytes, kanji, and the two rows of the character table.
 use crate::answer::Answer;
 ghost use mathlib.Core.Path.{_≡_};
-ghost use Prim.Native.Nat.{_+_, _-_, _*_, _%_, _^_, _<_, _≤_};
+ghost use Prim.Native.Nat.{_+_, _-_, _*_, _%_, _<_, _≤_};
 ghost use lib.ListN.{length, take, drop, getD};
 ghost use Rattle.ground.specs.Limits.{characterLimit};
 ghost use Rattle.ground.specs.Rows.{over};
@@ -28,6 +28,15 @@ pub struct Lead {
     pub size: usize,
 }
 
+// The row of nearly every character of an address, and so the one to test first.
+const COMMON: Lead = Lead {
+    low: 0xe1,
+    high: 0xec,
+    second_low: 0x80,
+    second_high: 0xbf,
+    size: 3,
+};
+
 const LEAD_ROWS: usize = 9;
 
 const LEADS: [Lead; LEAD_ROWS] = [
@@ -52,13 +61,7 @@ const LEADS: [Lead; LEAD_ROWS] = [
         second_high: 0xbf,
         size: 3,
     },
-    Lead {
-        low: 0xe1,
-        high: 0xec,
-        second_low: 0x80,
-        second_high: 0xbf,
-        size: 3,
-    },
+    COMMON,
     Lead {
         low: 0xed,
         high: 0xed,
@@ -226,7 +229,11 @@ fn letter_at(text: &[u8], at: usize) -> Decoded
     requires { ⌜ at < length (now text) ⌝ }
     ensures { λ r. ⌜ r ≡ letterAt (drop at (now (text .entry))) ⌝ }
 {
-    match lead_row(text[at]) {
+    let lead = text[at];
+    if within(COMMON.low, COMMON.high, lead) {
+        return letter_by(COMMON, &text[at..]);
+    }
+    match lead_row(lead) {
         LeadFound::Row(row) => letter_by(row, &text[at..]),
         LeadFound::NoRow => Decoded::IllFormed,
     }
@@ -278,32 +285,6 @@ pub fn check(text: &[u8]) -> Checked
     Checked::Passed { n: m.n }
 }
 
-// The character that well-formed bytes begin with, by its lead byte: nothing is tested again.
-fn letter_by_lead(bytes: &[u8]) -> Letter
-    requires { ⌜ (0 < length (now bytes)) × (sizeByLead (getD (now bytes) 0 0) ≤ length (now bytes)) ⌝ }
-    ensures { λ r. ⌜ r ≡ letterOfSize (now (bytes .entry)) (sizeByLead (getD (now (bytes .entry)) 0 0)) ⌝ }
-{
-    let lead = bytes[0];
-    if lead < 0x80 {
-        return letter_of_size(bytes, 1);
-    }
-    if lead < 0xe0 {
-        return letter_of_size(bytes, 2);
-    }
-    if lead < 0xf0 {
-        return letter_of_size(bytes, 3);
-    }
-    letter_of_size(bytes, 4)
-}
-
-// The character at a place where one is known to stand.
-fn known_letter(text: &[u8], at: usize) -> Letter
-    requires { ⌜ (at < length (now text)) × (letterAt (drop at (now text)) ≡ Decoded.IllFormed → ⊥) ⌝ }
-    ensures { λ r. ⌜ letterAt (drop at (now (text .entry))) ≡ Decoded.Whole r ⌝ }
-{
-    letter_by_lead(&text[at..])
-}
-
 // 1 from `low` on, and 0 below.
 fn at_least(low: u32, x: u32) -> u16
     ensures { λ r. ⌜ (r ≡ atLeast low x) × (r ≤ 1) ⌝ }
@@ -313,10 +294,12 @@ fn at_least(low: u32, x: u32) -> u16
 
 // 1 from `low` to `high`, and 0 elsewhere.
 fn in_block(low: u32, high: u32, code: u32) -> u16
-    requires { ⌜ (low ≤ high) × (high < 2 ^ 31) ⌝ }
     ensures { λ r. ⌜ (r ≡ inBlock low high code) × (r ≤ 1) ⌝ }
 {
-    at_least(low, code) - at_least(high + 1, code)
+    if high < code {
+        return 0;
+    }
+    at_least(low, code)
 }
 
 // 1 for a kanji and 0 for another character.
@@ -324,6 +307,46 @@ fn kanji_bit(code: u32) -> u16
     ensures { λ r. ⌜ r ≡ kanjiBit code ⌝ }
 {
     in_block(0x4e00, 0x9faf, code) + in_block(0x3400, 0x4dbf, code)
+}
+
+// What the filling takes of a character: its length and its kanji bit.
+pub struct Step {
+    pub size: usize,
+    pub bit: u16,
+}
+
+// The step over the character that well-formed bytes begin with, by its lead byte: nothing is tested again. No kanji has fewer
+// than three bytes.
+fn step_by_lead(bytes: &[u8]) -> Step
+    requires { ⌜ (0 < length (now bytes)) × (sizeByLead (getD (now bytes) 0 0) ≤ length (now bytes)) ⌝ }
+    ensures { λ r. ⌜ (r .size ≡ sizeByLead (getD (now (bytes .entry)) 0 0)) × (r .bit ≡ kanjiBit (letterOfSize (now (bytes .entry)) (r .size) .code)) ⌝ }
+{
+    let lead = bytes[0];
+    if within(0xe0, 0xef, lead) {
+        return Step {
+            size: 3,
+            bit: kanji_bit(code_of(bytes, 3)),
+        };
+    }
+    if lead < 0x80 {
+        return Step { size: 1, bit: 0 };
+    }
+    if lead < 0xe0 {
+        return Step { size: 2, bit: 0 };
+    }
+    Step {
+        size: 4,
+        bit: kanji_bit(code_of(bytes, 4)),
+    }
+}
+
+// The step at a place where a character is known to stand.
+fn known_step(text: &[u8], at: usize) -> Step
+    requires { ⌜ (at < length (now text)) × (letterAt (drop at (now text)) ≡ Decoded.IllFormed → ⊥) ⌝ }
+    ensures { λ r. ⌜ letterAt (drop at (now (text .entry))) ≡ Decoded.Whole (letterOfSize (drop at (now (text .entry))) (r .size)) ⌝ }
+    ensures { λ r. ⌜ r .bit ≡ kanjiBit (letterOfSize (drop at (now (text .entry))) (r .size) .code) ⌝ }
+{
+    step_by_lead(&text[at..])
 }
 
 // The offset row, and in the run row 1 for each kanji.
@@ -336,10 +359,10 @@ fn fill_bits(text: &[u8], offset: &mut [u32], run: &mut [u16])
     let mut at = 0;
     let mut i = 0;
     while at < text.len() {
-        let letter = known_letter(text, at);
+        let step = known_step(text, at);
         offset[i] = at as u32;
-        run[i] = kanji_bit(letter.code);
-        at += letter.size;
+        run[i] = step.bit;
+        at += step.size;
         i += 1;
     }
     offset[i] = at as u32;

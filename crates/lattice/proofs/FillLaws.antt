@@ -11,14 +11,14 @@ use lib.ListN.{length, getD, set, replicate, length-map, length-append}
 use lib.Seq.{set-append-left}
 use lib.IntN.{pos}
 use lib.Dec.{eqb}
-use borrow.Author.Tests.{ne-eqb}
+use borrow.Author.Tests.{eq-eqb, ne-eqb}
 use Rattle.ground.specs.Entry.{noneLink}
 use Rattle.ground.specs.Rows.{over}
 use Rattle.ground.proofs.RowLaws.{over-length}
 use Rattle.lattice.specs.Words.{Word, upFrom}
 use Rattle.lattice.specs.Lattice.{LatticeEntry, startMark, endsAt, entryBy}
 use Rattle.lattice.specs.Rows.{linkOf, firstAt, lastAt, firsts, lasts, lefts, costs, nextsFrom, nexts, LatticeRows, rows, Filled, Room}
-use Rattle.lattice.specs.Inner.{takenOf, linkedFirst, linkedLast, linkedNext, entered}
+use Rattle.lattice.specs.Inner.{takenOf, linkedFirst, linkedLast, beforeOf, linkedNext, entered}
 use Rattle.lattice.specs.declared.relaxation.Offer.{Offer}
 use Rattle.lattice.proofs.LatticeLaws.{up-length}
 use Rattle.lattice.proofs.OfferLaws.{ends-show}
@@ -205,12 +205,13 @@ module _ (n : ℕ) (es : List LatticeEntry) (e : LatticeEntry) where
             rw (ne-eqb l noneLink (λ z. omega (arith, apart l q)), firsts-kept r inside l q) (h .first)
 
         next : (m : Option ℕ) → lastAt p 0 es ≡ m
-            → cond (eqb (linkOf m) noneLink) (set (t .next) x noneLink) (set (set (t .next) x noneLink) (linkOf m) x) ≡ over (nexts more) (old .next)
-        next none q = filled-next ∙ rw (nexts-reached r inside, q)
+            → cond (eqb (beforeOf x (linkOf m)) x) (set (t .next) x noneLink) (set (set (t .next) x noneLink) (beforeOf x (linkOf m)) x)
+            ≡ over (nexts more) (old .next)
+        next none q = rw (eq-eqb x x refl) (filled-next ∙ rw (nexts-reached r inside, q))
         next (some l) q =
             let lower : l < length (nexts es) = omega (arith, apart l q, nexts-length 0 es) in
             let same : l - 0 ≡ l = omega arith in
-            rw (ne-eqb l noneLink (λ z. omega (arith, apart l q)), filled-next, nexts-reached r inside, q, same)
+            rw (ne-eqb l noneLink (λ z. omega (arith, apart l q)), ne-eqb l x (λ z. omega (arith, apart l q)), filled-next, nexts-reached r inside, q, same)
             (over-set (nexts es ++ (noneLink ∷ [])) (old .next) l x (rw length-append (omega arith))
             ∙ rw (set-append-left (nexts es) (noneLink ∷ []) l x lower))
 
@@ -312,12 +313,16 @@ room-kept n m a b room s =
       next = rw (s .next) (room .next);
     }
 
+-- Rows are equal, one by one.
+pub rows-equal : {a b : LatticeRows} → a .first ≡ b .first → a .last ≡ b .last → a .left ≡ b .left → a .cost ≡ b .cost → a .next ≡ b .next → a ≡ b
+rows-equal first last left cost next = λ i. record { first = first i; last = last i; left = left i; cost = cost i; next = next i }
+
 -- Two fillings of the same rows with the same entries are equal: the forward pass leaves one content of every row.
 pub filled-unique : (n : ℕ) (es : List LatticeEntry) (old a b : LatticeRows) → Filled n es old a → Filled n es old b → a ≡ b
-filled-unique n es old a b f g = λ i. record {
-  first = (f .first ∙ sym (g .first)) i;
-  last = (f .last ∙ sym (g .last)) i;
-  left = (f .left ∙ sym (g .left)) i;
-  cost = (f .cost ∙ sym (g .cost)) i;
-  next = (f .next ∙ sym (g .next)) i;
-}
+filled-unique n es old a b f g =
+    rows-equal
+    (f .first ∙ sym (g .first))
+    (f .last ∙ sym (g .last))
+    (f .left ∙ sym (g .left))
+    (f .cost ∙ sym (g .cost))
+    (f .next ∙ sym (g .next))

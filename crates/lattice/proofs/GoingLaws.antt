@@ -1,10 +1,10 @@
 -- The relaxation, over any list of entries: what its loop holds, how it begins, what a turn does and what it ends with; what the rows tell of the
 -- entry of a turn; and what is taken at the start. Assumes nothing.
 use Prim.Native.Nat.{ℕ, zero, suc, _+_, _-_, _≤_, _<_}
-use mathlib.Core.Path.{_≡_, refl, sym, ap, _∙_}
+use mathlib.Core.Path.{_≡_, refl, sym, ap, _∙_, subst}
 use mathlib.Core.Bool.{Bool, true, false, cond, true≢false}
 use mathlib.Core.List.{List, [], _∷_}
-use mathlib.Core.Option.{none, some}
+use mathlib.Core.Option.{Option, none, some, orElse}
 use native.Mathlib.Omega.{arith}
 use native.Mathlib.Nat.{zero-add}
 use lib.ListN.{length, getD, drop, length-drop}
@@ -15,12 +15,13 @@ use Rattle.ground.specs.Matrix.{valueIn}
 use Rattle.ground.specs.declared.charge.Mode.{Mode}
 use Rattle.lattice.specs.Words.{Word}
 use Rattle.lattice.specs.Lattice.{LatticeEntry, mark, unreached, entryNumbered, startMark, endsAt, offer, offers, against, least, cheaper, taken}
-use Rattle.lattice.specs.Rows.{linkOf, firstAt, nexts}
+use Rattle.lattice.specs.Rows.{linkOf, firstAt, lastAt, nexts}
 use Rattle.lattice.specs.Inner.{inRow, offerOf, Offering, Near, Held}
 use Rattle.lattice.specs.declared.relaxation.Offer.{Offer}
 use Rattle.lattice.proofs.LeastLaws.{against-against, cheaper-fair}
 use Rattle.lattice.proofs.OfferLaws.{Meets, ends-read, meets-listed, silent}
-use Rattle.lattice.proofs.SeekLaws.{Hit, hit, dry, link-low, link-high, next-at}
+use Rattle.lattice.proofs.LinkLaws.{last-at, last-listed, present}
+use Rattle.lattice.proofs.SeekLaws.{Hit, Sought, seek, hit, dry, link-low, link-high, next-at}
 
 -- ---- the loop
 
@@ -30,6 +31,13 @@ pub record Going (joints : ℕ → ℕ → ℤ) (w : Word) (es : List LatticeEnt
   pub within : k ≤ length es
   pub next : following ≡ linkOf (firstAt (w .start) k (drop k es))
   pub all : some (against cheaper held (least cheaper (offers joints w k (drop k es)))) ≡ taken joints es w
+
+-- So it is behind entry f, which made one.
+pub record Visited (joints : ℕ → ℕ → ℤ) (w : Word) (es : List LatticeEntry) (held : Offer) (f : ℕ) : Type 0 where
+  pub inside : f < length es
+  pub meets : Meets w es f
+  pub higher : f < getD (nexts es) f 0
+  pub going : Going joints w es held (getD (nexts es) f 0)
 
 module _ (joints : ℕ → ℕ → ℤ) (w : Word) (es : List LatticeEntry) where
   -- What is known in a turn: entry f is there and makes the first offer from number k on, and its next is a higher entry that does, or none.
@@ -42,22 +50,34 @@ module _ (joints : ℕ → ℕ → ℤ) (w : Word) (es : List LatticeEntry) wher
     pub more : offers joints w k (drop k es) ≡ offer joints w f (entryNumbered es f) ∷ offers joints w (suc f) (drop (suc f) es)
 
   -- The first offer is held when the loop begins.
-  pub begin : (f : ℕ) → Turn 0 f → Going joints w es (offer joints w f (entryNumbered es f)) (getD (nexts es) f 0)
+  pub begin : (f : ℕ) → Turn 0 f → Visited joints w es (offer joints w f (entryNumbered es f)) f
   unfolding least
-  begin f t = record { k = suc f; within = t .inside; next = t .next; all = ap (least cheaper) (sym (t .more)) }
+  begin f t =
+      record {
+        inside = t .inside;
+        meets = t .meets;
+        higher = t .higher;
+        going = record { k = suc f; within = t .inside; next = t .next; all = ap (least cheaper) (sym (t .more)) };
+      }
 
   -- A turn takes one more offer.
   pub again : (held : Offer) (f : ℕ) (g : Going joints w es held f) → Turn (g .k) f
-      → Going joints w es (against cheaper held (some (offer joints w f (entryNumbered es f)))) (getD (nexts es) f 0)
+      → Visited joints w es (against cheaper held (some (offer joints w f (entryNumbered es f)))) f
   unfolding least
   again held f g t =
       let o = offer joints w f (entryNumbered es f) in
       let others = least cheaper (offers joints w (suc f) (drop (suc f) es)) in
       record {
-        k = suc f;
-        within = t .inside;
-        next = t .next;
-        all = ap some (sym (against-against cheaper cheaper-fair held o others)) ∙ (rw (t .more) at (g .all));
+        inside = t .inside;
+        meets = t .meets;
+        higher = t .higher;
+        going =
+            record {
+              k = suc f;
+              within = t .inside;
+              next = t .next;
+              all = ap some (sym (against-against cheaper cheaper-fair held o others)) ∙ (rw (t .more) at (g .all));
+            };
       }
 
   module _ (few : length es ≤ noneLink) where
@@ -106,10 +126,61 @@ module _ (joints : ℕ → ℕ → ℤ) (w : Word) (es : List LatticeEntry) wher
         next =
             next-at (w .start) 0 es f inside meets ∙ ap (λ (n : ℕ). linkOf (firstAt (w .start) (suc n) (drop (suc f) es))) (zero-add f)
 
-    -- At the end the least of all offers is held.
-    pub done : (held : Offer) → Going joints w es held noneLink → some held ≡ taken joints es w
+    -- The last entry that ends there has no next, and each other one has.
+    pub record Ends (f : ℕ) : Type 0 where
+      pub last : f ≡ linkOf (lastAt (w .start) 0 es) → getD (nexts es) f 0 ≡ noneLink
+      pub more : (f ≡ linkOf (lastAt (w .start) 0 es) → ⊥) → getD (nexts es) f 0 ≡ noneLink → ⊥
+
+    pub ends : (f : ℕ) → f < length es → Meets w es f → Ends f
+    unfolding orElse
+    ends f inside meets = go (lastAt (w .start) (suc f) behind) refl
+      where
+        behind : List LatticeEntry
+        behind = drop (suc f) es
+
+        -- its next is the first one behind it, and the last of all is the last one behind it, or itself
+        next : getD (nexts es) f 0 ≡ linkOf (firstAt (w .start) (suc f) behind)
+        next = next-at (w .start) 0 es f inside meets ∙ ap (λ (n : ℕ). linkOf (firstAt (w .start) (suc n) behind)) (zero-add f)
+
+        last : (m : Option ℕ) → lastAt (w .start) (suc f) behind ≡ m → lastAt (w .start) 0 es ≡ orElse m (some f)
+        last m q =
+            last-at (w .start) 0 es f inside meets
+            ∙ ap (λ (n : ℕ). orElse (lastAt (w .start) (suc n) behind) (some n)) (zero-add f)
+            ∙ ap (λ (m : Option ℕ). orElse m (some f)) q
+
+        -- the first one behind it is in the list
+        below : (x : ℕ) → firstAt (w .start) (suc f) behind ≡ some x → x < noneLink
+        below x r =
+            let h : Hit joints w (suc f) behind x = subst (Sought joints w (suc f) behind) r (seek joints w (suc f) behind) in
+            omega (arith, h .inside, h .number, rest (suc f) inside)
+
+        go : (m : Option ℕ) → lastAt (w .start) (suc f) behind ≡ m → Ends f
+        go none q =
+            record {
+              last = λ _. next ∙ ap linkOf (present (w .start) (suc f) behind .neither q);
+              more = λ other _. other (sym (ap linkOf (last none q)));
+            }
+        go (some m) q =
+            let (x, there) = present (w .start) (suc f) behind .either m q in
+            let far : suc f ≤ m = last-listed (w .start) (suc f) behind m q .low in
+            record {
+              last = λ e. absurd (omega (arith, e ∙ ap linkOf (last (some m) q)));
+              more = λ _ e. omega (arith, below x there, sym (next ∙ ap linkOf there) ∙ e);
+            }
+
+    -- From an entry whose offer was made, and that is not the last, its next leads to a turn.
+    pub onward : (held : Offer) (f : ℕ) (v : Visited joints w es held f) → (f ≡ linkOf (lastAt (w .start) 0 es) → ⊥)
+        → Turn (v .going .k) (getD (nexts es) f 0)
+    onward held f v other =
+        turn (v .going .k) (getD (nexts es) f 0) (v .going .within) (v .going .next) (ends f (v .inside) (v .meets) .more other)
+
+    -- At the last one the least of all offers is held.
+    pub done : (held : Offer) (f : ℕ) → Visited joints w es held f → f ≡ linkOf (lastAt (w .start) 0 es) → some held ≡ taken joints es w
     unfolding least
-    done held g = rw (dry joints w (g .k) (drop (g .k) es) (rest (g .k) (g .within)) (g .next)) at (g .all)
+    done held f v e =
+        let g = v .going in
+        let q : noneLink ≡ linkOf (firstAt (w .start) (g .k) (drop (g .k) es)) = sym (ends f (v .inside) (v .meets) .last e) ∙ g .next in
+        rw (dry joints w (g .k) (drop (g .k) es) (rest (g .k) (g .within)) q) at (g .all)
 
 -- ---- the rows
 
@@ -121,8 +192,8 @@ pub record Told (position : ℕ) (es : List LatticeEntry) (row : List ℤ) (star
   pub is : offerOf row start entry run mode cost position (f - 1) ≡ offer (inRow row) (mark position) f (entryNumbered es f)
 
 -- So it is with each that ends at the position, unless that is 0.
-pub told : {position : ℕ} {es : List LatticeEntry} {row : List ℤ} {start entry run : List ℕ} {mode : Mode} {first : List ℕ} {cost : List ℤ} {next : List ℕ}
-    → Held position es row start entry run mode first cost next
+pub told : {position : ℕ} {es : List LatticeEntry} {row : List ℤ} {start entry run : List ℕ} {mode : Mode} {first last : List ℕ} {cost : List ℤ} {next : List ℕ}
+    → Held position es row start entry run mode first last cost next
     → (position ≡ 0 → ⊥) → (f : ℕ) → f < length es → Meets (mark position) es f → Told position es row start entry run mode cost f
 told {position} {es} held away zero h m =
     absurd (away (sym (ends-read position (entryNumbered es 0) m .1) ∙ ap (λ (e : LatticeEntry). e .word .end) (held .begins)))

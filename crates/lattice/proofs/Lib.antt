@@ -11,3 +11,4 @@ pub mod FillLaws
 pub mod SeekLaws
 pub mod GoingLaws
 pub mod StepLaws
+pub mod TwoLaws

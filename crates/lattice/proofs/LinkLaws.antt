@@ -1,5 +1,5 @@
 -- The first, the last and the next entries of a list, and of the list with one more at its end. Assumes nothing.
-use Prim.Native.Nat.{ℕ, suc, _+_, _-_, _≤_, _<_}
+use Prim.Native.Nat.{ℕ, zero, suc, _+_, _-_, _≤_, _<_}
 use mathlib.Core.Path.{_≡_, refl, sym, ap, _∙_}
 use mathlib.Core.Bool.{Bool, true, false, true≢false}
 use mathlib.Core.List.{List, [], _∷_, _++_}
@@ -7,9 +7,9 @@ use mathlib.Core.Option.{Option, none, some, orElse, Option·some-injective, Opt
 use native.Mathlib.Omega.{arith}
 use native.Mathlib.Nat.{add-zero}
 use native.Mathlib.Decide.{ℕ-discrete}
-use lib.ListN.{length, set}
+use lib.ListN.{length, set, drop}
 use Rattle.ground.specs.Entry.{noneLink}
-use Rattle.lattice.specs.Lattice.{LatticeEntry, endsAt}
+use Rattle.lattice.specs.Lattice.{LatticeEntry, entryNumbered, endsAt}
 use Rattle.lattice.specs.Rows.{onlyIf, linkOf, firstAt, lastAt, nextOf, nextsFrom}
 use Rattle.lattice.proofs.OfferLaws.{ends-read, ends-show, ends-not}
 
@@ -78,6 +78,18 @@ last-listed position i (e ∷ es) l q = go (lastAt position (suc i) es) (last-li
     go : (m : Option ℕ) → (m ≡ some l → Listed (suc i) es l) → orElse m (onlyIf (endsAt position e) i) ≡ some l → Listed i (e ∷ es) l
     go none up r = here (endsAt position e) r
     go (some x) up r = further (up r)
+
+-- the last one is the last behind any of them, or that one itself
+pub last-at : (position i : ℕ) (es : List LatticeEntry) (j : ℕ) → j < length es → endsAt position (entryNumbered es j) ≡ true
+    → lastAt position i es ≡ orElse (lastAt position (suc (i + j)) (drop (suc j) es)) (some (i + j))
+unfolding lastAt orElse
+last-at position i [] j h q = absurd (omega arith)
+last-at position i (e ∷ es) zero h q = rw (q, add-zero)
+last-at position i (e ∷ es) (suc j) h q =
+    let g : suc i + j ≡ i + suc j = omega arith in
+    let own = onlyIf (endsAt position e) i in
+    rw (last-at position (suc i) es j (omega arith) q, g)
+    (else-assoc (lastAt position (suc (i + suc j)) (drop (suc j) es)) (some (i + suc j)) own)
 
 -- a first one is there exactly if a last one is
 pub record Present (position i : ℕ) (es : List LatticeEntry) : Type 0 where

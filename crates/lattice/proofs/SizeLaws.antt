@@ -1,9 +1,10 @@
 -- How far sums of whole numbers lie above zero and below: both only add up, so a sum's range is a question of natural numbers. Assumes nothing.
 use Prim.Native.Nat.{ℕ, suc, _+_, _-_, _*_, _≤_, _<_, _^_}
+use mathlib.Core.Path.{subst}
 use mathlib.Core.Bool.{Bool, true, false, cond}
 use native.Mathlib.Omega.{arith}
 use lib.Dec.{ltb}
-use lib.IntN.{ℤ, pos, negsuc, _+ℤ_}
+use lib.IntN.{ℤ, pos, negsuc, _+ℤ_, +ℤ-idr}
 use lib.Signed.{mag}
 use mathlib.Core.Option.{Option, none, some}
 use mir.Syntax.{Width, w32}
@@ -76,6 +77,10 @@ in-range z h l = record { least = le-show leastCost z (omega arith); most = le-s
 pub record SmallOwn (ownCost : ℤ) : Type 0 where
   pub most : up ownCost ≤ 65534
   pub least : down ownCost ≤ 65536
+
+-- Such a cost is held by thirty-two bits.
+pub small-fits : (z : ℤ) → SmallOwn z → SFits w32 z
+small-fits z h = subst (SFits w32) (+ℤ-idr z) (sum-fits w32 z (pos 0) (omega (arith, h .most)) (omega (arith, h .least)))
 
 -- An entry's cost lies near by where it ends, if its offer lies near by where it starts and its word has a length.
 pub sized-entry : (w : Word) (m : Option Offer) → NearTaken (w .start) (takenOf m) → SmallOwn (w .ownCost)

@@ -59,6 +59,9 @@ module _ (n : ℕ) (g : Given) (ok : Accepted n g) (k : ℕ) (most : k ≤ count
   cost-is : (i : ℕ) → i < length es → entryNumbered es i .cost ≡ getD (t .cost) i (pos 0)
   cost-is i h = sym (held-at (costs es) (t .cost) i (pos 0) (f .cost) (omega (arith, costs-length es)) ∙ costs-at es i h)
 
+  last-is : (position : ℕ) → position ≤ n → getD (t .last) position 0 ≡ linkOf (lastAt position 0 es)
+  last-is position inside = held-at (lasts n es) (t .last) position 0 (f .last) (omega (arith, lasts-length n es)) ∙ lasts-at n es position inside
+
   -- ---- and so the relaxation of a word by its row can read them
   module _ (w : Word) (inside : w .start ≤ n) (row : List ℤ) (is : RowOf g w row) (fits : w .leftId * g .width + g .width ≤ length (g .matrix)) where
     abbrev position : ℕ
@@ -92,7 +95,7 @@ module _ (n : ℕ) (g : Given) (ok : Accepted n g) (k : ℕ) (most : k ≤ count
           least = rw (← cost-is (suc j) h, ← e) (rw (word-is j h) at (s .least));
         }
 
-    pub held : Held position es row (g .start) (g .entry) (g .run) (g .mode) (t .first) (t .cost) (t .next)
+    pub held : Held position es row (g .start) (g .entry) (g .run) (g .mode) (t .first) (t .last) (t .cost) (t .next)
     held =
         record {
           few = omega (arith, entries-length g k, ok .few);
@@ -101,6 +104,8 @@ module _ (n : ℕ) (g : Given) (ok : Accepted n g) (k : ℕ) (most : k ≤ count
           away = λ j h. rw (word-is j h) (omega (arith, ok .forward j (listed j h)));
           inFirst = omega (arith, room .first);
           head = held-at (firsts n es) (t .first) position 0 (f .first) (omega (arith, firsts-length n es)) ∙ firsts-at n es position inside;
+          inLast = omega (arith, room .last);
+          tail = last-is position inside;
           inNext = omega (arith, held-room (nexts es) (t .next) (f .next), nexts-length 0 es);
           follows = λ i h. held-at (nexts es) (t .next) i 0 (f .next) (omega (arith, nexts-length 0 es));
           right = λ j h. rw (word-is j h);
@@ -119,13 +124,10 @@ module _ (n : ℕ) (g : Given) (ok : Accepted n g) (k : ℕ) (most : k ≤ count
         known = known (lastAt position 0 es) refl;
       }
     where
-      last-is : getD (t .last) position 0 ≡ linkOf (lastAt position 0 es)
-      last-is = held-at (lasts n es) (t .last) position 0 (f .last) (omega (arith, lasts-length n es)) ∙ lasts-at n es position inside
-
       known : (m : Option ℕ) → lastAt position 0 es ≡ m → (getD (t .last) position 0 ≡ noneLink → ⊥) → getD (t .last) position 0 < length (t .next)
-      known none q ne = absurd (ne (last-is ∙ ap linkOf q))
+      known none q ne = absurd (ne (last-is position inside ∙ ap linkOf q))
       known (some i) q ne =
-          let z : getD (t .last) position 0 ≡ i = last-is ∙ ap linkOf q in
+          let z : getD (t .last) position 0 ≡ i = last-is position inside ∙ ap linkOf q in
           omega (arith, last-listed position 0 es i q .high, entries-length g k, room .next)
 
   -- and the rows then hold one entry more

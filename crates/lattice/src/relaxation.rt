@@ -1,4 +1,5 @@
-// The relaxation (document 01, piece 5; `add_edge_in_lattice`, `relax_decompose`): the least offer of the entries that end where a word starts.
+// The relaxation (document 01, piece 5; `add_edge_in_lattice`, `relax_decompose`): the least offer of the entries that end where a word starts. Two words
+// that start at one position are relaxed together: finding the entries that end there costs more than looking at what they offer.
 use ground::charge::Mode;
 use ground::entry::Entry;
 use ground::matrix;
@@ -8,11 +9,11 @@ ghost use Prim.Native.Nat.{suc, _<_};
 ghost use mathlib.Core.Bool.{cond};
 ghost use mathlib.Core.List.{List};
 ghost use mathlib.Core.Option.{some};
-ghost use lib.ListN.{getD};
+ghost use lib.ListN.{length, getD};
 ghost use lib.IntN.{pos};
 ghost use Rattle.ground.specs.Entry.{noneLink};
 ghost use Rattle.lattice.specs.Lattice.{LatticeEntry, mark, cheaper, against, taken};
-ghost use Rattle.lattice.specs.Inner.{takenOf, inRow, chargeTo, Chargeable, offerOf, Offering, Near, NearTaken, Held};
+ghost use Rattle.lattice.specs.Inner.{takenOf, inRow, chargeTo, Chargeable, offerOf, Offering, startOffer, Near, NearPair, NearTaken, oneOf, otherOf, HeldBoth};
 
 // What it costs a word to come from an entry, and the entry's number.
 pub struct Offer {
@@ -20,10 +21,22 @@ pub struct Offer {
     pub cost: i32,
 }
 
+// An offer to each of two words.
+pub struct Pair {
+    pub one: Offer,
+    pub other: Offer,
+}
+
 // The offer that a word takes.
 pub enum Taken {
     Least(Offer),
     Nothing,
+}
+
+// The offers that two words take which start at one position.
+pub enum TakenPair {
+    Each(Pair),
+    NoPair,
 }
 
 // The charge of candidate k, which ends at a position; Normal reads nothing for it.
@@ -63,7 +76,7 @@ fn offer_of(
 }
 
 // One of two numbers, by a test.
-fn number_if(test: bool, yes: u16, no: u16) -> u16
+pub fn number_if(test: bool, yes: u16, no: u16) -> u16
     ensures { λ r. ⌜ r ≡ cond test yes no ⌝ }
 {
     if test { yes } else { no }
@@ -86,61 +99,134 @@ fn cheaper_of(held: Offer, rival: Offer) -> Offer
     }
 }
 
-// The least offer of entry e and those that come after it.
-fn least_from(
-    e: u16,
+// The least offers of the entries that end at a position, from the lowest to the highest.
+fn least_between(
+    lowest: u16,
+    highest: u16,
     position: u16,
     row: &[i16],
+    other_row: &[i16],
     start: &[u16],
     entry: &[u8],
     run: &[u16],
     mode: Mode,
     first: &[u16],
+    last: &[u16],
     cost: &[i32],
     next: &[u16],
-) -> Offer
-    requires { ⌜ (e ≡ getD (now first) position 0) × (e ≡ noneLink → ⊥) × (position ≡ 0 → ⊥) ⌝ }
-    requires { ⌜ ((es : List LatticeEntry) × Held position es (now row) (now start) (now entry) (now run) mode (now first) (now cost) (now next)) ⌝ }
-    ensures { λ r. ⌜ ((es : List LatticeEntry) → Held position es (now (row .entry)) (now (start .entry)) (now (entry .entry)) (now (run .entry)) mode (now (first .entry)) (now (cost .entry)) (now (next .entry)) → some r ≡ taken (inRow (now (row .entry))) es (mark position)) ⌝ }
-    ensures { λ r. ⌜ Near position (r .cost) ⌝ }
+) -> Pair
+    requires { ⌜
+        (lowest ≡ getD (now first) position 0) × (lowest ≡ noneLink → ⊥) × (position ≡ 0 → ⊥)
+        × (highest ≡ getD (now last) position 0)
+        ⌝ }
+    requires { ⌜ ((es : List LatticeEntry) × HeldBoth position es (now row) (now «other_row») (now start) (now entry) (now run) mode (now first) (now last) (now cost) (now next)) ⌝ }
+    ensures { λ r. ⌜
+        ((es : List LatticeEntry)
+        → HeldBoth position es (now (row .entry)) (now («other_row» .entry)) (now (start .entry)) (now (entry .entry)) (now (run .entry)) mode (now (first .entry)) (now (last .entry)) (now (cost .entry)) (now (next .entry))
+        → (some (r .one) ≡ taken (inRow (now (row .entry))) es (mark position)) × (some (r .other) ≡ taken (inRow (now («other_row» .entry))) es (mark position)))
+        ⌝ }
+    ensures { λ r. ⌜ NearPair position r ⌝ }
 {
-    let mut at = e as usize;
-    let mut held = offer_of(at - 1, position, row, start, entry, run, mode, cost);
-    let mut following = next[at];
-    while following != Entry::NONE {
-        at = following as usize;
-        let rival = offer_of(at - 1, position, row, start, entry, run, mode, cost);
-        held = cheaper_of(held, rival);
-        following = next[at];
+    let end = highest as usize;
+    let mut at = lowest as usize;
+    let mut one = offer_of(at - 1, position, row, start, entry, run, mode, cost);
+    let mut other = offer_of(at - 1, position, other_row, start, entry, run, mode, cost);
+    while at != end {
+        at = next[at] as usize;
+        one = cheaper_of(
+            one,
+            offer_of(at - 1, position, row, start, entry, run, mode, cost),
+        );
+        other = cheaper_of(
+            other,
+            offer_of(at - 1, position, other_row, start, entry, run, mode, cost),
+        );
     }
-    held
+    Pair { one, other }
 }
 
-// The offer that a word takes, by its row of the matrix and the position where it starts. At position 0 the start mark alone ends.
+// The start mark's offer to a word that starts at 0: the joint alone.
+fn from_start(row: &[i16]) -> Offer
+    requires { ⌜ 0 < length (now row) ⌝ }
+    ensures { λ r. ⌜ (r ≡ startOffer (now (row .entry))) × Near 0 (r .cost) ⌝ }
+{
+    Offer {
+        from: Entry::START,
+        cost: matrix::joint(row, Entry::MARK_ID as usize),
+    }
+}
+
+// The offers that two words take, by their rows of the matrix and the position where both start. At position 0 the start mark alone ends.
 pub fn relax(
     position: u16,
     row: &[i16],
+    other_row: &[i16],
     start: &[u16],
     entry: &[u8],
     run: &[u16],
     mode: Mode,
     first: &[u16],
+    last: &[u16],
     cost: &[i32],
     next: &[u16],
-) -> Taken
-    requires { ⌜ ((es : List LatticeEntry) × Held position es (now row) (now start) (now entry) (now run) mode (now first) (now cost) (now next)) ⌝ }
-    ensures { λ r. ⌜ ((es : List LatticeEntry) → Held position es (now (row .entry)) (now (start .entry)) (now (entry .entry)) (now (run .entry)) mode (now (first .entry)) (now (cost .entry)) (now (next .entry)) → r ≡ takenOf (taken (inRow (now (row .entry))) es (mark position))) ⌝ }
-    ensures { λ r. ⌜ NearTaken position r ⌝ }
+) -> TakenPair
+    requires { ⌜ ((es : List LatticeEntry) × HeldBoth position es (now row) (now «other_row») (now start) (now entry) (now run) mode (now first) (now last) (now cost) (now next)) ⌝ }
+    ensures { λ r. ⌜
+        ((es : List LatticeEntry)
+        → HeldBoth position es (now (row .entry)) (now («other_row» .entry)) (now (start .entry)) (now (entry .entry)) (now (run .entry)) mode (now (first .entry)) (now (last .entry)) (now (cost .entry)) (now (next .entry))
+        → (oneOf r ≡ takenOf (taken (inRow (now (row .entry))) es (mark position))) × (otherOf r ≡ takenOf (taken (inRow (now («other_row» .entry))) es (mark position))))
+        ⌝ }
+    ensures { λ r. ⌜ NearTaken position (oneOf r) × NearTaken position (otherOf r) ⌝ }
 {
     if position == 0 {
-        return Taken::Least(Offer {
-            from: Entry::START,
-            cost: matrix::joint(row, Entry::MARK_ID as usize),
+        return TakenPair::Each(Pair {
+            one: from_start(row),
+            other: from_start(other_row),
         });
     }
-    let e = first[position as usize];
-    if e == Entry::NONE {
-        return Taken::Nothing;
+    let lowest = first[position as usize];
+    if lowest == Entry::NONE {
+        return TakenPair::NoPair;
     }
-    Taken::Least(least_from(e, position, row, start, entry, run, mode, first, cost, next))
+    TakenPair::Each(least_between(
+        lowest,
+        last[position as usize],
+        position,
+        row,
+        other_row,
+        start,
+        entry,
+        run,
+        mode,
+        first,
+        last,
+        cost,
+        next,
+    ))
+}
+
+// What the one of the two takes. (Read field by field: a copied offer would be packed into one number and taken apart again.)
+pub fn one_of(pair: TakenPair) -> Taken
+    ensures { λ r. ⌜ r ≡ oneOf pair ⌝ }
+{
+    match pair {
+        TakenPair::Each(offers) => Taken::Least(Offer {
+            from: offers.one.from,
+            cost: offers.one.cost,
+        }),
+        TakenPair::NoPair => Taken::Nothing,
+    }
+}
+
+// What the other takes.
+pub fn other_of(pair: TakenPair) -> Taken
+    ensures { λ r. ⌜ r ≡ otherOf pair ⌝ }
+{
+    match pair {
+        TakenPair::Each(offers) => Taken::Least(Offer {
+            from: offers.other.from,
+            cost: offers.other.cost,
+        }),
+        TakenPair::NoPair => Taken::Nothing,
+    }
 }

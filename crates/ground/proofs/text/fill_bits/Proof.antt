@@ -6,7 +6,8 @@ use borrow.Author.Needs.{needs}
 use native.Mathlib.Omega.{arith}
 use lib.ListN.{length, drop, set, length-set}
 use Rattle.ground.specs.Text.{letters, offsets}
-use Rattle.ground.specs.Filling.{kanjiBits}
+use Rattle.ground.specs.Filling.{letterOfSize, kanjiBits}
+use Rattle.ground.specs.declared.text.Letter.{Letter}
 use Rattle.ground.proofs.Filled.{Filled, filled-none, filled-more, filled-all}
 use Rattle.ground.proofs.LetterLaws.{letter-ends}
 use Rattle.ground.proofs.TextLaws.{not-ill-formed}
@@ -34,8 +35,8 @@ text l = start l .args .text .now
 abbrev rest : tie.At-loop Inv-loop μ-loop → List ℕ
 rest l = drop (l .loop .at) (text l)
 
-known-letter-requires : tie.Need-known-letter-requires Inv-loop μ-loop
-known-letter-requires c κs =
+known-step-requires : tie.Need-known-step-requires Inv-loop μ-loop
+known-step-requires c κs =
     let l = c .before in
     (omega arith, not-ill-formed (rest l) (omega arith))
 
@@ -48,38 +49,39 @@ mul-offset c = omega arith
 slice-write-offset : tie.Need-slice-write-offset Inv-loop μ-loop
 slice-write-offset c = omega arith
 
-kanji-bit-requires : tie.Need-kanji-bit-requires Inv-loop μ-loop
-kanji-bit-requires c κs = search needs
-
 mul-run : tie.Need-mul-run Inv-loop μ-loop
 mul-run c = omega arith
 
 slice-write-run : tie.Need-slice-write-run Inv-loop μ-loop
 slice-write-run c = omega arith
 
-ends : (c : tie.After-known-letter Inv-loop μ-loop)
-    → (1 ≤ c .known-letter .result .size) × (c .before .before .loop .at + c .known-letter .result .size ≤ length (text (c .before .before)))
-ends c = let l = c .before .before in letter-ends (text l) (l .loop .at) (c .known-letter .result) (c .known-letter .ensures) (l .loop .inv .within)
+-- the character that was found
+abbrev letter : tie.After-known-step Inv-loop μ-loop → Letter
+letter c = letterOfSize (rest (c .before .before)) (c .known-step .result .size)
+
+ends : (c : tie.After-known-step Inv-loop μ-loop)
+    → (1 ≤ c .known-step .result .size) × (c .before .before .loop .at + c .known-step .result .size ≤ length (text (c .before .before)))
+ends c = let l = c .before .before in letter-ends (text l) (l .loop .at) (letter c) (c .known-step .ensures .0) (l .loop .inv .within)
 
 add-at : tie.Need-add-at Inv-loop μ-loop
-add-at c = omega (arith, ends (c .before .before))
+add-at c = omega (arith, ends (c .before))
 
 add-i : tie.Need-add-i Inv-loop μ-loop
 add-i c = omega arith
 
 loop-less : tie.Need-loop-less Inv-loop μ-loop
-loop-less c = omega (arith, ends (c .before .before))
+loop-less c = omega (arith, ends (c .before))
 
 loop-again : tie.Need-loop-again Inv-loop μ-loop
 loop-again c =
-    let w = c .before .before in
+    let w = c .before in
     let l = w .before .before in
     let a = start l .args in
     subst
     (λ (mark : ℕ). Filled (text l) (a .offset .now) (a .run .now) (set (l .loop .offset) (l .loop .i) (l .loop .at))
-    (set (l .loop .run) (l .loop .i) mark) (l .loop .at + w .known-letter .result .size) (l .loop .i + 1))
-    (sym (c .before .kanji-bit .ensures))
-    (filled-more (text l) (a .offset .now) (a .run .now) (l .loop .offset) (l .loop .run) (l .loop .at) (l .loop .i) (w .known-letter .result) (w .known-letter .ensures) (l .loop .inv))
+    (set (l .loop .run) (l .loop .i) mark) (l .loop .at + w .known-step .result .size) (l .loop .i + 1))
+    (sym (w .known-step .ensures .1))
+    (filled-more (text l) (a .offset .now) (a .run .now) (l .loop .offset) (l .loop .run) (l .loop .at) (l .loop .i) (letter w) (w .known-step .ensures .0) (l .loop .inv))
 
 cast-offset-2 : tie.Need-cast-offset-2 Inv-loop μ-loop
 cast-offset-2 c = omega arith
@@ -119,11 +121,10 @@ fill-bits-spec =
     Inv-loop
     μ-loop
     loop-holds
-    known-letter-requires
+    known-step-requires
     cast-offset
     mul-offset
     slice-write-offset
-    kanji-bit-requires
     mul-run
     slice-write-run
     add-at

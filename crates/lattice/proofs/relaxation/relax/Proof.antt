@@ -1,55 +1,70 @@
--- At 0 the start mark's joint is taken; elsewhere nothing, where the first link is none, or the least of what it leads to. Assumes nothing.
+-- At 0 the start mark's joint is taken; elsewhere nothing, where the first link is none, or the least from the first to the last. Assumes nothing.
 use borrow.Author.Needs.{needs}
 use mathlib.Core.Path.{sym, ap, _∙_}
-use mir.Syntax.{w32}
-use Rattle.ground.proofs.SignedLaws.{back}
-use Rattle.lattice.specs.Lattice.{mark}
+use Rattle.lattice.specs.Lattice.{mark, taken}
 use Rattle.lattice.specs.Inner.{takenOf, inRow}
-use Rattle.lattice.proofs.SizeLaws.{near-joint}
 use Rattle.lattice.proofs.GoingLaws.{untaken, start-offer}
 use Rattle.lattice.proofs.relaxation.relax.Statement.{statement}
 use Rattle.lattice.proofs.relaxation.relax.Tie as tie
 
-cast-joint : tie.Need-cast-joint
-cast-joint c = search needs
+from-start-requires : tie.Need-from-start-requires
+from-start-requires c κs = search needs
 
-joint-requires : tie.Need-joint-requires
-joint-requires c κs = search needs
+from-start-requires-2 : tie.Need-from-start-requires-2
+from-start-requires-2 c κs = search needs
 
 returns : tie.Need-returns
 returns c =
-    let s = c .before .before .before .before .before .before .before .args in
-    let q = back w32 (c .joint .result) (c .joint .ok) in (
-      λ es h. rw (q ∙ c .joint .ensures .0, c .before .if1 .taken) (ap takenOf (sym (start-offer (s .row .now) es (h .begins) (h .away)))),
-      rw q (near-joint (s .position) (c .joint .result) (c .joint .ensures .1)),
+    let s = c .before .before .before .before .before .before .before .before .before .args in
+    let q = c .before .before .if1 .taken in (
+      λ es both. (
+        rw (c .before .from-start .ensures .0, q) (ap takenOf (sym (start-offer (s .row .now) es (both .0 .begins) (both .0 .away)))),
+        rw (c .from-start2 .ensures .0, q) (ap takenOf (sym (start-offer (s .other-row .now) es (both .1 .begins) (both .1 .away)))),
+      ),
+      (rw q (c .before .from-start .ensures .1), rw q (c .from-start2 .ensures .1)),
     )
 
-mul-e : tie.Need-mul-e
-mul-e c = search needs
+mul-lowest : tie.Need-mul-lowest
+mul-lowest c = search needs
 
-shared-slice-read-e : tie.Need-shared-slice-read-e
-shared-slice-read-e c = search needs
+shared-slice-read-lowest : tie.Need-shared-slice-read-lowest
+shared-slice-read-lowest c = search needs
 
 returns-2 : tie.Need-returns-2
 returns-2 c =
-    let s = c .before .before .before .before .before .before .before .before .args in
-    (λ es h. ap takenOf (sym (untaken (inRow (s .row .now)) (mark (s .position)) es (h .few) (sym (c .if2 .taken) ∙ h .head))), tt)
+    let s = c .before .before .before .before .before .before .before .before .before .args in (
+      λ es both. (
+        ap takenOf (sym (untaken (inRow (s .row .now)) (mark (s .position)) es (both .0 .few) (sym (c .if2 .taken) ∙ both .0 .head))),
+        ap takenOf (sym (untaken (inRow (s .other-row .now)) (mark (s .position)) es (both .1 .few) (sym (c .if2 .taken) ∙ both .1 .head))),
+      ),
+      (tt, tt),
+    )
 
-least-from-requires : tie.Need-least-from-requires
-least-from-requires c κs = search needs
+mul-least-between : tie.Need-mul-least-between
+mul-least-between c = search needs
+
+shared-slice-read-least-between : tie.Need-shared-slice-read-least-between
+shared-slice-read-least-between c = search needs
+
+least-between-requires : tie.Need-least-between-requires
+least-between-requires c κs = search needs
 
 returns-3 : tie.Need-returns-3
-returns-3 c = (λ es h. ap takenOf (c .least-from .ensures .0 es h), c .least-from .ensures .1)
+returns-3 c =
+    let least = c .least-between .ensures in
+    (λ es both. (ap takenOf (least .0 es both .0), ap takenOf (least .0 es both .1)), least .1)
 
 pub relax-spec : {M : Type 1} → statement M
 relax-spec =
     tie.close
     (tie.spec
-    cast-joint
-    joint-requires
+    from-start-requires
+    from-start-requires-2
     returns
-    mul-e
-    shared-slice-read-e
+    mul-lowest
+    shared-slice-read-lowest
     returns-2
-    least-from-requires
+    mul-least-between
+    shared-slice-read-least-between
+    least-between-requires
     returns-3)

@@ -6,12 +6,12 @@ use borrow.Author.Needs.{needs}
 use native.Mathlib.Omega.{arith}
 use lib.ListN.{length, drop, getD, length-drop}
 use Rattle.ground.specs.Text.{letterAt}
-use Rattle.ground.specs.Filling.{sizeByLead, letterOfSize}
+use Rattle.ground.specs.Filling.{sizeByLead, letterOfSize, kanjiBit}
 use Rattle.ground.specs.declared.text.Decoded.the-variants.{Whole}
 use Rattle.ground.proofs.LeadLaws.{lead-size}
 use Rattle.ground.proofs.LetterLaws.{letter-parts, well-formed, part-rest}
-use Rattle.ground.proofs.text.known_letter.Statement.{statement}
-use Rattle.ground.proofs.text.known_letter.Tie as tie
+use Rattle.ground.proofs.text.known_step.Statement.{statement}
+use Rattle.ground.proofs.text.known_step.Tie as tie
 
 abbrev bytes : tie.Start → List ℕ
 bytes s = drop (s .args .at) (s .args .text .now)
@@ -28,32 +28,36 @@ told s =
       omega (arith, p .enough),
     )
 
-sub-letter-by-lead : tie.Need-sub-letter-by-lead
-sub-letter-by-lead c = search needs
+sub-step-by-lead : tie.Need-sub-step-by-lead
+sub-step-by-lead c = search needs
 
-part-letter-by-lead-start : tie.Need-part-letter-by-lead-start
-part-letter-by-lead-start c = search needs
+part-step-by-lead-start : tie.Need-part-step-by-lead-start
+part-step-by-lead-start c = search needs
 
-part-letter-by-lead-end : tie.Need-part-letter-by-lead-end
-part-letter-by-lead-end c = search needs
+part-step-by-lead-end : tie.Need-part-step-by-lead-end
+part-step-by-lead-end c = search needs
 
-letter-by-lead-requires : tie.Need-letter-by-lead-requires
-letter-by-lead-requires c κs =
+step-by-lead-requires : tie.Need-step-by-lead-requires
+step-by-lead-requires c κs =
     let s = c .before .before in
     rw (part-rest (s .args .text .now) (s .args .at)) (omega (arith, length-drop (s .args .at) (s .args .text .now)), told s .1)
 
 returns : tie.Need-returns
 returns c =
     let s = c .before .before .before in
-    told s .0
-    ∙ ap Whole (ap (λ (l : List ℕ). letterOfSize l (sizeByLead (getD l 0 0))) (sym (part-rest (s .args .text .now) (s .args .at))) ∙ sym (c .letter-by-lead .ensures))
+    let step = c .step-by-lead .result in
+    let rest = part-rest (s .args .text .now) (s .args .at) in
+    let size : step .size ≡ sizeByLead (getD (bytes s) 0 0) = c .step-by-lead .ensures .0 ∙ ap (λ (l : List ℕ). sizeByLead (getD l 0 0)) rest in (
+      told s .0 ∙ ap (λ (n : ℕ). Whole (letterOfSize (bytes s) n)) (sym size),
+      c .step-by-lead .ensures .1 ∙ ap (λ (l : List ℕ). kanjiBit (letterOfSize l (step .size) .code)) rest,
+    )
 
-pub known-letter-spec : {M : Type 1} → statement M
-known-letter-spec =
+pub known-step-spec : {M : Type 1} → statement M
+known-step-spec =
     tie.close
     (tie.spec
-    sub-letter-by-lead
-    part-letter-by-lead-start
-    part-letter-by-lead-end
-    letter-by-lead-requires
+    sub-step-by-lead
+    part-step-by-lead-start
+    part-step-by-lead-end
+    step-by-lead-requires
     returns)
