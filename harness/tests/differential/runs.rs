@@ -146,47 +146,67 @@ fn every_tiny_job() {
 
 #[test]
 fn any() {
-    at_least(Class::Any, 154, 1_000_000, [800_000, 20_000, 900_000]);
+    at_least(Class::Any, 154, 4_000_000, [3_200_000, 80_000, 3_600_000]);
 }
 
 #[test]
 fn ties() {
-    at_least(Class::Ties, 156, 1_000_000, [800_000, 20_000, 1_000_000]);
+    at_least(Class::Ties, 156, 4_000_000, [3_200_000, 80_000, 4_000_000]);
 }
 
 #[test]
 fn dense() {
-    at_least(Class::Dense, 158, 100_000, [100_000, 0, 50_000]);
+    at_least(Class::Dense, 158, 400_000, [400_000, 0, 200_000]);
 }
 
 #[test]
 fn sparse() {
-    at_least(Class::Sparse, 160, 1_000_000, [200_000, 200_000, 900_000]);
+    at_least(Class::Sparse, 160, 4_000_000, [800_000, 800_000, 3_600_000]);
 }
 
 #[test]
 fn no_path() {
-    at_least(Class::NoPath, 162, 1_000_000, [50_000, 800_000, 900_000]);
+    at_least(
+        Class::NoPath,
+        162,
+        4_000_000,
+        [200_000, 3_200_000, 3_600_000],
+    );
 }
 
 #[test]
 fn extremes() {
-    at_least(Class::Extremes, 164, 1_000_000, [800_000, 20_000, 300_000]);
+    at_least(
+        Class::Extremes,
+        164,
+        4_000_000,
+        [3_200_000, 80_000, 1_200_000],
+    );
 }
 
 #[test]
 fn scripts() {
-    at_least(Class::Scripts, 166, 1_000_000, [800_000, 20_000, 900_000]);
+    at_least(
+        Class::Scripts,
+        166,
+        4_000_000,
+        [3_200_000, 80_000, 3_600_000],
+    );
 }
 
 #[test]
 fn lengths() {
-    at_least(Class::Lengths, 168, 1_000_000, [800_000, 20_000, 900_000]);
+    at_least(
+        Class::Lengths,
+        168,
+        4_000_000,
+        [3_200_000, 80_000, 3_600_000],
+    );
 }
 
 #[test]
 fn largest() {
-    at_least(Class::Largest, 170, 200, [100, 20, 20]);
+    at_least(Class::Largest, 170, 800, [400, 80, 80]);
 }
 
 // A seed makes one job, and another seed another one.
