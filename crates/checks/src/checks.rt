@@ -18,21 +18,21 @@ use ground::text;
 use ground::text::Checked;
 
 // What tests tell: none holds, or the answer of the first that does.
-#[derive(Drop)]
+#[derive(Clone, Copy)]
 pub enum Verdict {
     Fine,
     Refused(Answer),
 }
 
 // The mode that numbers name.
-#[derive(Drop)]
+#[derive(Clone, Copy)]
 pub enum Named {
     Known(Mode),
     Other,
 }
 
 // What the tests of the inputs tell.
-#[derive(Drop)]
+#[derive(Clone, Copy)]
 pub enum Inputs {
     Passed { n: usize, mode: Mode },
     Failed(Answer),
@@ -398,7 +398,7 @@ fn highest_end(end: &[u16]) -> u16
 }
 
 // A left and a right id.
-#[derive(Drop)]
+#[derive(Clone, Copy)]
 struct Ids {
     left: u16,
     right: u16,

@@ -1,2 +1,3 @@
 // The tests of a job (document 01, "Answer numbers"): nothing is written here.
+#![tactic(auto)]
 pub mod checks;

@@ -2,7 +2,7 @@
 ghost use Rattle.std.specs.Prelude.{◌≡◌};
 ghost use Rattle.ground.specs.Answer.{numbers_of};
 
-#[derive(Drop)]
+#[derive(Clone, Copy)]
 pub enum Answer {
     // The work is done: characters or words, and the cost.
     Done { count: u32, cost: i32 },
@@ -36,7 +36,7 @@ pub enum Answer {
 
 // The four numbers of an answer, as they cross to C.
 #[repr(C)]
-#[derive(Drop)]
+#[derive(Clone, Copy)]
 pub struct Numbers {
     pub number: u32,
     pub place: u32,

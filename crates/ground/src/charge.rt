@@ -11,7 +11,7 @@ pub const PRICE_LIMIT: u32 = 32_767;
 pub const THRESHOLD_LIMIT: u32 = 65_535;
 
 // Two thresholds and two prices: of kanji only words, and of others.
-#[derive(Drop)]
+#[derive(Clone, Copy)]
 pub struct Penalty {
     pub kanji_threshold: u16,
     pub kanji_price: u16,
@@ -19,7 +19,7 @@ pub struct Penalty {
     pub other_price: u16,
 }
 
-#[derive(Drop)]
+#[derive(Clone, Copy)]
 pub enum Mode {
     Normal,
     Decompose(Penalty),

@@ -8,7 +8,7 @@ use crate::signed;
 pub const CANDIDATE_LIMIT: usize = 16_384;
 
 // Document 01's entry type: a word's ten bytes, read. The lattice's constants belong to it too.
-#[derive(Drop)]
+#[derive(Clone, Copy)]
 pub struct Entry {
     pub id: u32,
     pub cost: i16,
@@ -88,7 +88,7 @@ impl Entry {
     }
 }
 
-#[derive(Drop)]
+#[derive(Clone, Copy)]
 pub enum Kind {
     System,
     User,

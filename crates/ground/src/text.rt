@@ -19,7 +19,7 @@ const LATER_LOW: u8 = 0x80;
 const LATER_HIGH: u8 = 0xbf;
 
 // A row of RFC 3629's table: lead bytes, second bytes, and the character's length.
-#[derive(Drop)]
+#[derive(Clone, Copy)]
 pub struct Lead {
     pub low: u8,
     pub high: u8,
@@ -99,21 +99,21 @@ const LEADS: [Lead; LEAD_ROWS] = [
     },
 ];
 
-#[derive(Drop)]
+#[derive(Clone, Copy)]
 pub enum LeadFound {
     Row(Lead),
     NoRow,
 }
 
 // A letter is one of document 01's characters: its length in bytes and its code point.
-#[derive(Drop)]
+#[derive(Clone, Copy)]
 pub struct Letter {
     pub size: usize,
     pub code: u32,
 }
 
 // What the bytes begin with.
-#[derive(Drop)]
+#[derive(Clone, Copy)]
 pub enum Decoded {
     Whole(Letter),
     IllFormed,
@@ -243,7 +243,7 @@ fn letter_at(text: &[u8], at: usize) -> Decoded
 }
 
 // How many whole well-formed characters the text begins with, and how many bytes they take.
-#[derive(Drop)]
+#[derive(Clone, Copy)]
 pub struct Measured {
     pub n: usize,
     pub bytes: usize,
@@ -265,7 +265,7 @@ fn measure(text: &[u8]) -> Measured
 }
 
 // What the tests of a text tell.
-#[derive(Drop)]
+#[derive(Clone, Copy)]
 pub enum Checked {
     Passed { n: usize },
     Refused(Answer),
@@ -315,7 +315,7 @@ fn kanji_bit(code: u32) -> u16
 }
 
 // What the filling takes of a character: its length and its kanji bit.
-#[derive(Drop)]
+#[derive(Clone, Copy)]
 pub struct Step {
     pub size: usize,
     pub bit: u16,

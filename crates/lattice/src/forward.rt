@@ -41,7 +41,7 @@ fn own_cost(extra: i16, word_cost: i16) -> i32
 }
 
 // What is read of a word that goes into the lattice.
-#[derive(Drop)]
+#[derive(Clone, Copy)]
 pub struct Incoming {
     pub start: u16,
     pub end: u16,

@@ -11,28 +11,28 @@ use ground::entry::Entry;
 use ground::{matrix, signed};
 
 // What it costs a word to come from an entry, and the entry's number.
-#[derive(Drop)]
+#[derive(Clone, Copy)]
 pub struct Offer {
     pub from: u16,
     pub cost: i32,
 }
 
 // An offer to each of two words.
-#[derive(Drop)]
+#[derive(Clone, Copy)]
 pub struct Pair {
     pub one: Offer,
     pub other: Offer,
 }
 
 // The offer that a word takes.
-#[derive(Drop)]
+#[derive(Clone, Copy)]
 pub enum Taken {
     Least(Offer),
     Nothing,
 }
 
 // The offers that two words take which start at one position.
-#[derive(Drop)]
+#[derive(Clone, Copy)]
 pub enum TakenPair {
     Each(Pair),
     NoPair,

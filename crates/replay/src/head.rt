@@ -9,7 +9,7 @@ use crate::numbers;
 use ground::answer::Numbers;
 use ground::entry;
 
-#[derive(Drop)]
+#[derive(Clone, Copy)]
 pub struct Head {
     pub text: u32,
     pub n: u32,

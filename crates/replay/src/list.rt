@@ -7,7 +7,7 @@ use crate::{head, job};
 use libc::{STDIN_FILENO, STDOUT_FILENO};
 
 // What stands next in the list.
-#[derive(Drop)]
+#[derive(Clone, Copy)]
 pub enum Next {
     // Nothing.
     End,
@@ -17,7 +17,7 @@ pub enum Next {
 }
 
 // What came of the next job.
-#[derive(Drop)]
+#[derive(Clone, Copy)]
 pub enum Outcome {
     // There was none.
     End,

@@ -1,5 +1,6 @@
 // Replays a recorded list of the Rust original's answers through the library and says which jobs it answers otherwise. The list
 // comes on standard input; src/head.rt says how a job lies in it.
+#![tactic(auto)]
 mod head;
 mod job;
 mod list;

@@ -9,7 +9,7 @@ use ground::entry::{CANDIDATE_LIMIT, Entry};
 use ground::text::CHARACTER_LIMIT;
 
 // What a link says at a position.
-#[derive(Drop)]
+#[derive(Clone, Copy)]
 pub enum Link {
     ToStart,
     ToCandidate { k: usize },
@@ -17,7 +17,7 @@ pub enum Link {
 }
 
 // What the first pass finds: all links right, and how many lead to a candidate; or one that is broken.
-#[derive(Drop)]
+#[derive(Clone, Copy)]
 pub enum Walked {
     Whole { count: usize },
     Broken,
