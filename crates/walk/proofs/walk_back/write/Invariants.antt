@@ -1,0 +1,21 @@
+-- The loop's invariant is `Linking`, and that the candidates found so far are `Placed` in the row. Assumes nothing.
+use Prim.Native.Nat.{ℕ, ◌-◌, ◌≤◌, ◌<◌}
+use mathlib.Core.Path.{◌∙◌, ap, sym, subst}
+use mathlib.Core.List.{List, [], ◌∷◌, map-id}
+use borrow.Author.Rules.{rules}
+use native.Mathlib.Omega.{arith}
+use lib.ListN.{length, get_or, set}
+use Rattle.ground.specs.Rows.{over}
+use Rattle.walk.proofs.Passes.{Linking, Placed, sure_link, linking_none, linking_more, linking_all, placed_none, placed_more, placed_all}
+use Rattle.walk.proofs.walk_back.write.Given as goal
+
+-- the number of a candidate is all that is told of it
+abbrev pub Writing : List ℕ → ℕ → ℕ → List ℕ → List ℕ → ℕ → ℕ → Type 0
+Writing left mark count word₀ word entry i =
+    (found : List ℕ) × Linking left mark count found entry i × Placed (λ (k : ℕ). k) found count i word₀ word
+
+abbrev pub invariant-loop-i : goal.invariant-loop-i
+invariant-loop-i l = Writing l.left l.mark l.count l.initial.word l.word l.entry l.i
+
+abbrev pub decreases-loop-i : goal.decreases-loop-i
+decreases-loop-i l = l.i
