@@ -159,7 +159,7 @@ ready s x e t z y e' t' z' h near small other_near other_small =
     let within = inside a.n (G s) ok a.k le in
     let other-within = inside a.n (G s) ok (beside_of s.args.start.now s.args.k) (other_listed s) in
     let same = same_lengths a.n (G s) ok a.k le (T s) room s.requires.room.1 s.requires.k_in_bounds.2 in
-    rw (h.number, h.end, h.took, h.own, h.other_number, h.other_end, h.other-taken, h.other_own) (
+    rw (h.number, h.end, h.took, h.own, h.other_number, h.other_end, h.other_took, h.other_own) (
       (
         linkable a.n (G s) ok a.k le (T s) room s.requires.room.1 s.requires.k_in_bounds.2 (word_at s.args.n (G s) s.args.k).end within.end,
         record {
@@ -181,7 +181,7 @@ ready s x e t z y e' t' z' h near small other_near other_small =
 -- and then stand in the rows
 entered_is : (s : goal.Start) (x e : ℕ) (t : Taken) (z : ℤ) (y e' : ℕ) (t' : Taken) (z' : ℤ) → Handed s x e t z y e' t' z'
     → entered y e' t' z' (entered x e t z (T s)) ≡ (entered (suc (beside_of s.args.start.now s.args.k)) (word_at s.args.n (G s) (beside_of s.args.start.now s.args.k)).end ((taken_of (taken (joints_of (G s)) (entries_to (G s) s.args.k) (word_at s.args.n (G s) (beside_of s.args.start.now s.args.k))))) (word_at s.args.n (G s) (beside_of s.args.start.now s.args.k)).own_cost (entered (suc s.args.k) (word_at s.args.n (G s) s.args.k).end ((taken_of (taken (joints_of (G s)) (entries_to (G s) s.args.k) (word_at s.args.n (G s) s.args.k)))) (word_at s.args.n (G s) s.args.k).own_cost (T s)))
-entered_is s x e t z y e' t' z' h = rw (h.number, h.end, h.took, h.own, h.other_number, h.other_end, h.other-taken, h.other_own)
+entered_is s x e t z y e' t' z' h = rw (h.number, h.end, h.took, h.own, h.other_number, h.other_end, h.other_took, h.other_own)
 
 -- so it is with what is handed here
 handed : (c : goal.After-other_of) →     Handed (goal.at.After-other_of c).Start
