@@ -349,8 +349,8 @@ fn step_by_lead(bytes: &[u8]) -> Step
 // The step at a place where a character is known to stand.
 fn known_step(text: &[u8], at: usize) -> Step
     requires { (at < length text.now) × (letter_at (drop at text.now) ≡ Decoded.IllFormed → ⊥) }
-    ensures text_value { letter_at (drop at text.now) ≡ Decoded.Whole (letter_of_size (drop at text.now) result.size) }
-    ensures bit_value { result.bit ≡ kanji_bit (letter_of_size (drop at text.now) result.size).code }
+    ensures letter { letter_at (drop at text.now) ≡ Decoded.Whole (letter_of_size (drop at text.now) result.size) }
+    ensures bit { result.bit ≡ kanji_bit (letter_of_size (drop at text.now) result.size).code }
 {
     step_by_lead(&text[at..])
 }
@@ -358,7 +358,7 @@ fn known_step(text: &[u8], at: usize) -> Step
 // The offset row, and in the run row 1 for each kanji.
 fn fill_bits(text: &[u8], offset: &mut [u32], run: &mut [u16])
     requires sound { Sound text.now (length (letters text.now)) }
-    requires text_in_bounds { (length (letters text.now) < length offset.old) × (length (letters text.now) < length run.old) }
+    requires room { (length (letters text.now) < length offset.old) × (length (letters text.now) < length run.old) }
     ensures offset_after { offset.new ≡ over (offsets (letters text.now)) offset.old }
     ensures run_after { run.new ≡ over (kanji_bits (letters text.now)) run.old }
 {
@@ -398,7 +398,7 @@ fn count_runs(run: &mut [u16], n: usize)
 // Both rows of the character table, of a text that passed its tests and has n characters.
 pub fn fill(text: &[u8], n: usize, offset: &mut [u32], run: &mut [u16])
     requires sound { Sound text.now n }
-    requires n_in_bounds { (n < length offset.old) × (n < length run.old) }
+    requires room { (n < length offset.old) × (n < length run.old) }
     ensures offset_after { offset.new ≡ over (offsets (letters text.now)) offset.old }
     ensures run_after { run.new ≡ over (runs (letters text.now)) run.old }
 {

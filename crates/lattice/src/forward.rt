@@ -109,7 +109,7 @@ fn two_words(
     cost: &mut [i32],
     next: &mut [u16],
 ) -> usize
-    requires k_in_bounds { (k ≤ length start.now) × Accepted n (given start.now end.now extra.now entry.now run.now mode matrix.now width) × AllSized (entries_to (given start.now end.now extra.now entry.now run.now mode matrix.now width) k) }
+    requires accepted { (k ≤ length start.now) × Accepted n (given start.now end.now extra.now entry.now run.now mode matrix.now width) × AllSized (entries_to (given start.now end.now extra.now entry.now run.now mode matrix.now width) k) }
     requires room { Room n (length start.now + 2) (rows first.old last.old left.old cost.old next.old) × Filled n (entries_to (given start.now end.now extra.now entry.now run.now mode matrix.now width) k) (rows first.old last.old left.old cost.old next.old) (rows first.old last.old left.old cost.old next.old) }
     ensures value { result ≡ suc (beside_of start.now k) }
     ensures filled { Filled n (entries_before n (given start.now end.now extra.now entry.now run.now mode matrix.now width) result) (rows first.old last.old left.old cost.old next.old) (rows first.new last.new left.new cost.new next.new) × SizedBefore n (given start.now end.now extra.now entry.now run.now mode matrix.now width) result }

@@ -114,10 +114,10 @@ fn least_between(
     cost: &[i32],
     next: &[u16],
 ) -> Pair
-    requires lowest_value { (lowest ≡ get_or first.now position 0) × (lowest ≡ none_link → ⊥) × (position ≡ 0 → ⊥)
+    requires lowest { (lowest ≡ get_or first.now position 0) × (lowest ≡ none_link → ⊥) × (position ≡ 0 → ⊥)
         × (highest ≡ get_or last.now position 0) }
     requires held_both { (es : List LatticeEntry) × HeldBoth position es row.now other_row.now start.now entry.now run.now mode first.now last.now cost.now next.now }
-    ensures one_value { (es : List LatticeEntry)
+    ensures least { (es : List LatticeEntry)
         → HeldBoth position es row.now other_row.now start.now entry.now run.now mode first.now last.now cost.now next.now
         → (some result.one ≡ taken (in_row row.now) es (mark position)) × (some result.other ≡ taken (in_row other_row.now) es (mark position)) }
     ensures near_pair { NearPair position result }
@@ -166,7 +166,7 @@ pub fn relax(
     next: &[u16],
 ) -> TakenPair
     requires { (es : List LatticeEntry) × HeldBoth position es row.now other_row.now start.now entry.now run.now mode first.now last.now cost.now next.now }
-    ensures result_value { (es : List LatticeEntry)
+    ensures taken { (es : List LatticeEntry)
         → HeldBoth position es row.now other_row.now start.now entry.now run.now mode first.now last.now cost.now next.now
         → (one_of result ≡ taken_of (taken (in_row row.now) es (mark position))) × (other_of result ≡ taken_of (taken (in_row other_row.now) es (mark position))) }
     ensures near_taken { NearTaken position (one_of result) × NearTaken position (other_of result) }

@@ -44,12 +44,12 @@ fn work(
     requires sound { Sound text.now n
         × Accepted n (given start.now end.now extra.now entry.now (runs (letters text.now)) mode matrix.now width)
         × (length kind.now ≡ length start.now) }
-    requires word_kind_value { short_row n (length start.now)
+    requires room { short_row n (length start.now)
         (job_rows
         offset.old run.old first.old last.old left.old cost.old next.old
         word_offset.old word_id.old word_kind.old)
         ≡ false }
-    ensures word_kind_after { outcome result (job_rows
+    ensures leaves { outcome result (job_rows
         offset.new run.new first.new last.new left.new cost.new next.new
         word_offset.new word_id.new word_kind.new)
         ≡ worked (letters text.now) kind.now
@@ -123,7 +123,7 @@ pub fn segment(
     word_id: &mut [u32],
     word_kind: &mut [u8],
 ) -> Answer
-    ensures word_kind_after { outcome result (job_rows
+    ensures leaves { outcome result (job_rows
         offset.new run.new first.new last.new left.new cost.new next.new
         word_offset.new word_id.new word_kind.new)
         ≡ Rattle.segmenter.specs.Segment.segment

@@ -29,7 +29,7 @@ fn write(
     word_kind: &mut [u8],
 )
     requires listed { Listed start.now kind.now entry.now offset.now × Sure left.now (length start.now + 1) count (length start.now + 1) }
-    requires count_in_bounds { (count ≤ length word_offset.old) × (count ≤ length word_id.old) × (count ≤ length word_kind.old)
+    requires room { (count ≤ length word_offset.old) × (count ≤ length word_id.old) × (count ≤ length word_kind.old)
         × (length start.now + 1 ≤ length left.now) }
     ensures word_offset_after { word_offset.new
         ≡ over (word_offsets offset.now start.now (linked left.now count (length start.now + 1) []))
@@ -69,7 +69,7 @@ pub fn words(
     word_kind: &mut [u8],
 ) -> Answer
     requires listed { Listed start.now kind.now entry.now offset.now × (length end.now ≡ length start.now) × (n ≤ character_limit) }
-    requires start_in_bounds { (length start.now + 2 ≤ length left.now)
+    requires room { (length start.now + 2 ≤ length left.now)
         × (n ≤ length word_offset.old) × (n ≤ length word_id.old) × (n ≤ length word_kind.old) }
     ensures { Ended n start.now end.now kind.now entry.now offset.now left.now cost
         word_offset.old word_id.old word_kind.old

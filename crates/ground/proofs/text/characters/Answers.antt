@@ -45,7 +45,7 @@ pub fill-requires : goal.fill-requires
 fill-requires c =
     record {
       sound = passed c.args.text.now (c.in-Passed.n) (tests (goal.at.fill-requires c).In-Passed);
-      n_in_bounds = (omega arith, omega arith);
+      room = (omega arith, omega arith);
     }
 
 pub overflow_cast-result : goal.overflow_cast-result

@@ -25,7 +25,7 @@ known_step-step-requires c =
 
 ends : (c : goal.After-known_step-step)
     → (1 ≤ c.known_step-step.result.size) × (c.loop-at.at + c.known_step-step.result.size ≤ length (c.args.text.now))
-ends c = letter_ends (c.args.text.now) c.loop-at.at (letter_of_size (drop c.loop-at.at (c.args.text.now)) c.known_step-step.result.size) c.known_step-step.ensures.text_value c.loop-at.invariant.within
+ends c = letter_ends (c.args.text.now) c.loop-at.at (letter_of_size (drop c.loop-at.at (c.args.text.now)) c.known_step-step.result.size) c.known_step-step.ensures.letter c.loop-at.invariant.within
 
 pub overflow_add-at : goal.overflow_add-at
 overflow_add-at c = omega (arith, ends (goal.at.overflow_add-at c).After-known_step-step)
@@ -39,8 +39,8 @@ loop-at-preserved c =
     subst
     (λ (mark : ℕ). Filled (c.args.text.now) a.offset.now a.run.now (set c.loop-at.offset c.loop-at.i c.loop-at.at)
     (set c.loop-at.run c.loop-at.i mark) (c.loop-at.at + c.known_step-step.result.size) (c.loop-at.i + 1))
-    (sym c.known_step-step.ensures.bit_value)
-    (filled_more (c.args.text.now) a.offset.now a.run.now c.loop-at.offset c.loop-at.run c.loop-at.at c.loop-at.i (letter_of_size (drop c.loop-at.at (c.args.text.now)) c.known_step-step.result.size) c.known_step-step.ensures.text_value c.loop-at.invariant)
+    (sym c.known_step-step.ensures.bit)
+    (filled_more (c.args.text.now) a.offset.now a.run.now c.loop-at.offset c.loop-at.run c.loop-at.at c.loop-at.i (letter_of_size (drop c.loop-at.at (c.args.text.now)) c.known_step-step.result.size) c.known_step-step.ensures.letter c.loop-at.invariant)
 
 pub shape_of-offset : goal.shape_of-offset
 shape_of-offset c = let l = c.loop-at in length-set l.offset l.i l.at ∙ l.invariant.offset_long

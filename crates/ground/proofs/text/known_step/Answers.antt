@@ -34,6 +34,6 @@ returns c =
     let step = c.step_by_lead.result in
     let rest = part_rest c.args.text.now c.args.at in
     let size : step.size ≡ size_by_lead (get_or (drop c.args.at c.args.text.now) 0 0) = c.step_by_lead.ensures.0 ∙ ap (λ (l : List ℕ). size_by_lead (get_or l 0 0)) rest in record {
-      text_value = (told (goal.at.returns c).Start).0 ∙ ap (λ (n : ℕ). Whole (letter_of_size (drop c.args.at c.args.text.now) n)) (sym size);
-      bit_value = c.step_by_lead.ensures.1 ∙ ap (λ (l : List ℕ). kanji_bit (letter_of_size l step.size).code) rest;
+      letter = (told (goal.at.returns c).Start).0 ∙ ap (λ (n : ℕ). Whole (letter_of_size (drop c.args.at c.args.text.now) n)) (sym size);
+      bit = c.step_by_lead.ensures.1 ∙ ap (λ (l : List ℕ). kanji_bit (letter_of_size l step.size).code) rest;
     }

@@ -48,7 +48,7 @@ loop-k-init c =
 pub two_words-k-requires : goal.two_words-k-requires
 two_words-k-requires c =
  record {
-      k_in_bounds = (c.loop-k-test.true, c.requires.accepted, c.loop-k.invariant.1.some c.loop-k-test.true);
+      accepted = (c.loop-k-test.true, c.requires.accepted, c.loop-k.invariant.1.some c.loop-k-test.true);
       room = (
         room_kept c.args.n (length c.args.start.now + 2) (T₀ (goal.at.two_words-k-requires c).Start) (T (goal.at.two_words-k-requires c).At-loop-k) c.requires.room.0 (lengths (goal.at.two_words-k-requires c).At-loop-k),
         fill_held c.args.n (entries_to (G (goal.at.two_words-k-requires c).Start) c.loop-k.k) (T₀ (goal.at.two_words-k-requires c).Start) (T (goal.at.two_words-k-requires c).At-loop-k) (filled (goal.at.two_words-k-requires c).In-loop-k),

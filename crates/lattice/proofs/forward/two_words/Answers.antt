@@ -48,12 +48,12 @@ other_read c =
 
 readable : (s : goal.Start) → Readable s.args.n s.args.start.now s.args.end.now s.args.extra.now s.args.entry.now
 readable s =
-    let ok = s.requires.k_in_bounds.1 in
+    let ok = s.requires.accepted.1 in
     record { characters = ok.characters; few = ok.few; ends = ok.ends; extras = ok.extras; entries = ok.entries }
 
 -- both words are words of the list
 other_listed : (s : goal.Start) → (beside_of s.args.start.now s.args.k) ≤ count (G s)
-other_listed s = beside_listed s.args.n (G s) s.requires.k_in_bounds.1 s.args.k s.requires.k_in_bounds.0
+other_listed s = beside_listed s.args.n (G s) s.requires.accepted.1 s.args.k s.requires.accepted.0
 
 -- their rows of the matrix
 row_is : (c : goal.After-row-row) → RowOf (G (goal.at.After-row-row c).Start) ((word_at c.args.n (G (goal.at.After-row-row c).Start) c.args.k)) c.row-row.result.now
@@ -78,18 +78,18 @@ holds : (s : goal.Start) (i : ℕ) → i ≤ count (G s) → (row : List ℤ) �
     → Holds s (word_at s.args.n (G s) i).start row
 holds s i h row is =
     let a = s.args in
-    let ok = s.requires.k_in_bounds.1 in
+    let ok = s.requires.accepted.1 in
     let w = word_at a.n (G s) i in
     let within = inside a.n (G s) ok i h in
-    held a.n (G s) ok a.k s.requires.k_in_bounds.0 (T s) s.requires.room.0 s.requires.room.1 s.requires.k_in_bounds.2 w within.start row is within.row
+    held a.n (G s) ok a.k s.requires.accepted.0 (T s) s.requires.room.0 s.requires.room.1 s.requires.accepted.2 w within.start row is within.row
 
 same_start : (s : goal.Start) → (word_at s.args.n (G s) (beside_of s.args.start.now s.args.k)).start ≡ (word_at s.args.n (G s) s.args.k).start
-same_start s = beside_start s.args.n (G s) s.requires.k_in_bounds.1 s.args.k s.requires.k_in_bounds.0
+same_start s = beside_start s.args.n (G s) s.requires.accepted.1 s.args.k s.requires.accepted.0
 
 both_hold : (c : goal.After-row-other_row) → Holds (goal.at.After-row-other_row c).Start (word_at c.args.n (G (goal.at.After-row-other_row c).Start) c.args.k).start c.row-row.result.now × Holds (goal.at.After-row-other_row c).Start (word_at c.args.n (G (goal.at.After-row-other_row c).Start) c.args.k).start c.row-other_row.result.now
 both_hold c =
  (
-      holds (goal.at.After-row-other_row c).Start c.args.k c.requires.k_in_bounds.0 c.row-row.result.now (row_is (goal.at.After-row-other_row c).After-row-row),
+      holds (goal.at.After-row-other_row c).Start c.args.k c.requires.accepted.0 c.row-row.result.now (row_is (goal.at.After-row-other_row c).After-row-row),
       subst (λ (position : ℕ). Holds (goal.at.After-row-other_row c).Start position c.row-other_row.result.now) (same_start (goal.at.After-row-other_row c).Start) (holds (goal.at.After-row-other_row c).Start (beside_of c.args.start.now c.args.k) (other_listed (goal.at.After-row-other_row c).Start) c.row-other_row.result.now (other_row_is c)),
     )
 
@@ -105,14 +105,14 @@ both_held c =
 found : (c : goal.After-relax-pair) → one_of c.relax-pair.result ≡ (taken_of (taken (joints_of (G (goal.at.After-relax-pair c).Start)) ((entries_to (G (goal.at.After-relax-pair c).Start) c.args.k)) ((word_at c.args.n (G (goal.at.After-relax-pair c).Start) c.args.k))))
 found c =
      let row = c.row-row.result.now in
-    (c.relax-pair.ensures.result_value (entries_to (G (goal.at.After-relax-pair c).Start) c.args.k) (both_held (goal.at.After-relax-pair c).After-row-other_row)).0
+    (c.relax-pair.ensures.taken (entries_to (G (goal.at.After-relax-pair c).Start) c.args.k) (both_held (goal.at.After-relax-pair c).After-row-other_row)).0
     ∙ ap (λ (position : ℕ). taken_of (taken (in_row row) (entries_to (G (goal.at.After-relax-pair c).Start) c.args.k) (mark position))) (word_read (goal.at.After-relax-pair c).After-word_at-word).start
     ∙ row_taken (G (goal.at.After-relax-pair c).Start) (word_at c.args.n (G (goal.at.After-relax-pair c).Start) c.args.k) row (row_is (goal.at.After-relax-pair c).After-row-row) (entries_to (G (goal.at.After-relax-pair c).Start) c.args.k)
 
 other_found : (c : goal.After-relax-pair) → other_of c.relax-pair.result ≡ (taken_of (taken (joints_of (G (goal.at.After-relax-pair c).Start)) ((entries_to (G (goal.at.After-relax-pair c).Start) c.args.k)) ((word_at c.args.n (G (goal.at.After-relax-pair c).Start) (beside_of c.args.start.now c.args.k)))))
 other_found c =
      let row = c.row-other_row.result.now in
-    (c.relax-pair.ensures.result_value (entries_to (G (goal.at.After-relax-pair c).Start) c.args.k) (both_held (goal.at.After-relax-pair c).After-row-other_row)).1
+    (c.relax-pair.ensures.taken (entries_to (G (goal.at.After-relax-pair c).Start) c.args.k) (both_held (goal.at.After-relax-pair c).After-row-other_row)).1
     ∙ ap (λ (position : ℕ). taken_of (taken (in_row row) (entries_to (G (goal.at.After-relax-pair c).Start) c.args.k) (mark position))) ((word_read (goal.at.After-relax-pair c).After-word_at-word).start ∙ sym (same_start (goal.at.After-relax-pair c).Start))
     ∙ row_taken (G (goal.at.After-relax-pair c).Start) (word_at c.args.n (G (goal.at.After-relax-pair c).Start) (beside_of c.args.start.now c.args.k)) row (other_row_is (goal.at.After-relax-pair c).After-row-other_row) (entries_to (G (goal.at.After-relax-pair c).Start) c.args.k)
 
@@ -153,15 +153,15 @@ ready : (s : goal.Start) (x e : ℕ) (t : Taken) (z : ℤ) (y e' : ℕ) (t' : Ta
     → EnterableAfter x e t z (T s) × EnterableAfter y e' t' z' (entered x e t z (T s))
 ready s x e t z y e' t' z' h near small other_near other_small =
     let a = s.args in
-    let ok = s.requires.k_in_bounds.1 in
-    let le = s.requires.k_in_bounds.0 in
+    let ok = s.requires.accepted.1 in
+    let le = s.requires.accepted.0 in
     let room = s.requires.room.0 in
     let within = inside a.n (G s) ok a.k le in
     let other-within = inside a.n (G s) ok (beside_of s.args.start.now s.args.k) (other_listed s) in
-    let same = same_lengths a.n (G s) ok a.k le (T s) room s.requires.room.1 s.requires.k_in_bounds.2 in
+    let same = same_lengths a.n (G s) ok a.k le (T s) room s.requires.room.1 s.requires.accepted.2 in
     rw (h.number, h.end, h.took, h.own, h.other_number, h.other_end, h.other_took, h.other_own) (
       (
-        linkable a.n (G s) ok a.k le (T s) room s.requires.room.1 s.requires.k_in_bounds.2 (word_at s.args.n (G s) s.args.k).end within.end,
+        linkable a.n (G s) ok a.k le (T s) room s.requires.room.1 s.requires.accepted.2 (word_at s.args.n (G s) s.args.k).end within.end,
         record {
           in_left = omega (arith, le, room.left);
           in_cost = omega (arith, le, room.cost);
@@ -169,7 +169,7 @@ ready s x e t z y e' t' z' h near small other_near other_small =
         },
       ),
       (
-        linkable_beside a.n (G s) ok a.k le (T s) room s.requires.room.1 s.requires.k_in_bounds.2 near small,
+        linkable_beside a.n (G s) ok a.k le (T s) room s.requires.room.1 s.requires.accepted.2 near small,
         record {
           in_left = omega (arith, other_listed s, room.left, same.left);
           in_cost = omega (arith, other_listed s, room.cost, same.cost);
@@ -210,7 +210,7 @@ abbrev written : goal.After-enter_two → LatticeRows
 written c = let l = c.enter_two.new in rows l.first l.last l.left l.cost l.next
 
 pub beside-other-requires : goal.beside-other-requires
-beside-other-requires c = (c.requires.k_in_bounds.0, c.requires.k_in_bounds.1.few)
+beside-other-requires c = (c.requires.accepted.0, c.requires.accepted.1.few)
 
 pub word_at-word-requires : goal.word_at-word-requires
 word_at-word-requires c = readable (goal.at.word_at-word-requires c).Start
@@ -220,40 +220,40 @@ word_at-other_word-requires c = readable (goal.at.word_at-other_word-requires c)
 
 pub row-row-requires : goal.row-row-requires
 row-row-requires c =
-     rw (word_read (goal.at.row-row-requires c).After-word_at-word).left_id (inside c.args.n (G (goal.at.row-row-requires c).Start) c.requires.k_in_bounds.1 c.args.k c.requires.k_in_bounds.0).row
+     rw (word_read (goal.at.row-row-requires c).After-word_at-word).left_id (inside c.args.n (G (goal.at.row-row-requires c).Start) c.requires.accepted.1 c.args.k c.requires.accepted.0).row
 
 pub row-other_row-requires : goal.row-other_row-requires
 row-other_row-requires c =
-     rw (other_read (goal.at.row-other_row-requires c).After-word_at-other_word).left_id (inside c.args.n (G (goal.at.row-other_row-requires c).Start) c.requires.k_in_bounds.1 (beside_of c.args.start.now c.args.k) (other_listed (goal.at.row-other_row-requires c).Start)).row
+     rw (other_read (goal.at.row-other_row-requires c).After-word_at-other_word).left_id (inside c.args.n (G (goal.at.row-other_row-requires c).Start) c.requires.accepted.1 (beside_of c.args.start.now c.args.k) (other_listed (goal.at.row-other_row-requires c).Start)).row
 
 pub relax-pair-requires : goal.relax-pair-requires
 relax-pair-requires c =
      ((entries_to (G (goal.at.relax-pair-requires c).Start) c.args.k), both_held (goal.at.relax-pair-requires c).After-row-other_row)
 
 pub overflow_add-k : goal.overflow_add-k
-overflow_add-k c = omega (arith, c.requires.k_in_bounds.0, c.requires.k_in_bounds.1.few)
+overflow_add-k c = omega (arith, c.requires.accepted.0, c.requires.accepted.1.few)
 
 pub overflow_cast-k : goal.overflow_cast-k
-overflow_cast-k c = omega (arith, c.requires.k_in_bounds.0, c.requires.k_in_bounds.1.few)
+overflow_cast-k c = omega (arith, c.requires.accepted.0, c.requires.accepted.1.few)
 
 pub overflow_cast-word-2 : goal.overflow_cast-word-2
 overflow_cast-word-2 c =
-     omega (arith, (word_read (goal.at.overflow_cast-word-2 c).After-word_at-word).end, (inside c.args.n (G (goal.at.overflow_cast-word-2 c).Start) c.requires.k_in_bounds.1 c.args.k c.requires.k_in_bounds.0).end, c.requires.k_in_bounds.1.characters)
+     omega (arith, (word_read (goal.at.overflow_cast-word-2 c).After-word_at-word).end, (inside c.args.n (G (goal.at.overflow_cast-word-2 c).Start) c.requires.accepted.1 c.args.k c.requires.accepted.0).end, c.requires.accepted.1.characters)
 
 pub one_of-requires : goal.one_of-requires
 one_of-requires c = tt
 
 pub overflow_add-other : goal.overflow_add-other
 overflow_add-other c =
-     omega (arith, beside_is (goal.at.overflow_add-other c).After-beside-other, other_listed (goal.at.overflow_add-other c).Start, c.requires.k_in_bounds.1.few)
+     omega (arith, beside_is (goal.at.overflow_add-other c).After-beside-other, other_listed (goal.at.overflow_add-other c).Start, c.requires.accepted.1.few)
 
 pub overflow_cast-other : goal.overflow_cast-other
 overflow_cast-other c =
-     omega (arith, beside_is (goal.at.overflow_cast-other c).After-beside-other, other_listed (goal.at.overflow_cast-other c).Start, c.requires.k_in_bounds.1.few)
+     omega (arith, beside_is (goal.at.overflow_cast-other c).After-beside-other, other_listed (goal.at.overflow_cast-other c).Start, c.requires.accepted.1.few)
 
 pub overflow_cast-other_word-2 : goal.overflow_cast-other_word-2
 overflow_cast-other_word-2 c =
-     omega (arith, (other_read (goal.at.overflow_cast-other_word-2 c).After-word_at-other_word).end, (inside c.args.n (G (goal.at.overflow_cast-other_word-2 c).Start) c.requires.k_in_bounds.1 (beside_of c.args.start.now c.args.k) (other_listed (goal.at.overflow_cast-other_word-2 c).Start)).end, c.requires.k_in_bounds.1.characters)
+     omega (arith, (other_read (goal.at.overflow_cast-other_word-2 c).After-word_at-other_word).end, (inside c.args.n (G (goal.at.overflow_cast-other_word-2 c).Start) c.requires.accepted.1 (beside_of c.args.start.now c.args.k) (other_listed (goal.at.overflow_cast-other_word-2 c).Start)).end, c.requires.accepted.1.characters)
 
 pub other_of-requires : goal.other_of-requires
 other_of-requires c = tt
@@ -263,14 +263,14 @@ enter_two-requires c = let parts = (ready (goal.at.enter_two-requires c).Start _
 
 pub overflow_add-result : goal.overflow_add-result
 overflow_add-result c =
-     omega (arith, beside_is (goal.at.overflow_add-result c).After-beside-other, other_listed (goal.at.overflow_add-result c).Start, c.requires.k_in_bounds.1.few)
+     omega (arith, beside_is (goal.at.overflow_add-result c).After-beside-other, other_listed (goal.at.overflow_add-result c).Start, c.requires.accepted.1.few)
 
 pub returns : goal.returns
 returns c =
       let a = c.args in
      let number = add-one c.beside-other.result ∙ ap suc (beside_is (goal.at.returns c).After-beside-other) in
     let (filled, sized) =
-    both_in a.n (G (goal.at.returns c).Start) c.requires.k_in_bounds.1 a.k c.requires.k_in_bounds.0 (T (goal.at.returns c).Start) c.requires.room.0 c.requires.room.1 c.requires.k_in_bounds.2 (near (goal.at.returns c).After-relax-pair) (small (goal.at.returns c).After-word_at-word) ((taken_of (taken (joints_of (G (goal.at.returns c).Start)) (entries_to (G (goal.at.returns c).Start) c.args.k) (word_at c.args.n (G (goal.at.returns c).Start) (beside_of c.args.start.now c.args.k))))) refl (other_near (goal.at.returns c).After-relax-pair)
+    both_in a.n (G (goal.at.returns c).Start) c.requires.accepted.1 a.k c.requires.accepted.0 (T (goal.at.returns c).Start) c.requires.room.0 c.requires.room.1 c.requires.accepted.2 (near (goal.at.returns c).After-relax-pair) (small (goal.at.returns c).After-word_at-word) ((taken_of (taken (joints_of (G (goal.at.returns c).Start)) (entries_to (G (goal.at.returns c).Start) c.args.k) (word_at c.args.n (G (goal.at.returns c).Start) (beside_of c.args.start.now c.args.k))))) refl (other_near (goal.at.returns c).After-relax-pair)
     (other_small (goal.at.returns c).After-word_at-other_word) in record {
       value = number;
       filled = subst (λ (i : ℕ). Filled a.n (entries_before a.n (G (goal.at.returns c).Start) i) (T (goal.at.returns c).Start) (written (goal.at.returns c).After-enter_two) × SizedBefore a.n (G (goal.at.returns c).Start) i) (sym number) (

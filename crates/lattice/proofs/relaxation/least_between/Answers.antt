@@ -18,12 +18,12 @@ use Rattle.lattice.proofs.relaxation.least_between.Goals.{After-loop-at, At-loop
 -- the turn before the loop
 first_turn : (s : goal.Start) (row : List ℤ) (es : List LatticeEntry) → (Held s.args.position es row s.args.start.now s.args.entry.now s.args.run.now s.args.mode s.args.first.now s.args.last.now s.args.cost.now s.args.next.now) → (Turn (in_row row) (mark s.args.position) es 0 s.args.lowest)
 first_turn s row es h =
-    turn (in_row row) (mark s.args.position) es h.few 0 s.args.lowest (omega arith) (s.requires.lowest_value.0 ∙ h.head) s.requires.lowest_value.1
+    turn (in_row row) (mark s.args.position) es h.few 0 s.args.lowest (omega arith) (s.requires.lowest.0 ∙ h.head) s.requires.lowest.1
 
 first_told : (s : goal.Start) (row : List ℤ) (es : List LatticeEntry) → (Held s.args.position es row s.args.start.now s.args.entry.now s.args.run.now s.args.mode s.args.first.now s.args.last.now s.args.cost.now s.args.next.now) → (Told s.args.position es row s.args.start.now s.args.entry.now s.args.run.now s.args.mode s.args.cost.now s.args.lowest)
 first_told s row es h =
     let t = first_turn s row es h in
-    told h s.requires.lowest_value.2 s.args.lowest t.inside t.meets
+    told h s.requires.lowest.2 s.args.lowest t.inside t.meets
 
 begun : (s : goal.Start) (row : List ℤ) (es : List LatticeEntry) (h : (Held s.args.position es row s.args.start.now s.args.entry.now s.args.run.now s.args.mode s.args.first.now s.args.last.now s.args.cost.now s.args.next.now))
     → let w = mark s.args.position in Visited (in_row row) w es (offer (in_row row) w s.args.lowest (entry_numbered es s.args.lowest)) s.args.lowest
@@ -37,9 +37,9 @@ module _ (c : goal.In-loop-at) (row : List ℤ) (es : List LatticeEntry) (h : (H
   in_turn : (Turn (in_row row) (mark c.args.position) es v.going.k (get_or (nexts es) (c.loop-at.at) 0))
   in_turn =
       onward (in_row row) (mark c.args.position) es h.few held (c.loop-at.at) v
-      (λ e. c.loop-at-test.true (e ∙ sym (c.requires.lowest_value.3 ∙ h.tail)))
+      (λ e. c.loop-at-test.true (e ∙ sym (c.requires.lowest.3 ∙ h.tail)))
   in_told : (Told c.args.position es row c.args.start.now c.args.entry.now c.args.run.now c.args.mode c.args.cost.now (get_or c.args.next.now (c.loop-at.at) 0))
-  in_told = rw follows (told h c.requires.lowest_value.2 (get_or (nexts es) (c.loop-at.at) 0) in_turn.inside in_turn.meets)
+  in_told = rw follows (told h c.requires.lowest.2 (get_or (nexts es) (c.loop-at.at) 0) in_turn.inside in_turn.meets)
   visited : Visited (in_row row) (mark c.args.position) es
       (against cheaper held (some (offer (in_row row) (mark c.args.position) (get_or c.args.next.now (c.loop-at.at) 0) (entry_numbered es (get_or c.args.next.now (c.loop-at.at) 0))))) (get_or c.args.next.now (c.loop-at.at) 0)
   visited = rw follows (again (in_row row) (mark c.args.position) es held (get_or (nexts es) (c.loop-at.at) 0) v.going in_turn)
@@ -49,7 +49,7 @@ least : (c : goal.After-loop-at) (row : List ℤ) (es : List LatticeEntry) (held
     → Visited (in_row row) (mark c.args.position) es held c.loop-at.at
     → some held ≡ taken (in_row row) es (mark c.args.position)
 least c row es held h v =
-     done (in_row row) (mark c.args.position) es h.few held c.loop-at.at v (c.loop-at-test.false ∙ c.requires.lowest_value.3 ∙ h.tail)
+     done (in_row row) (mark c.args.position) es h.few held c.loop-at.at v (c.loop-at-test.false ∙ c.requires.lowest.3 ∙ h.tail)
 
 -- the entry's number fits
 low : (l : goal.At-loop-at) → l.loop-at.at < none_link
@@ -151,7 +151,7 @@ loop-at-preserved c =
 pub returns : goal.returns
 returns c =
      let l = c.loop-at in record {
-      one_value = λ es both. (
+      least = λ es both. (
         least (goal.at.returns c).After-loop-at c.args.row.now es l.one both.0 (l.invariant.0 es both).0,
         least (goal.at.returns c).After-loop-at c.args.other_row.now es l.other both.1 (l.invariant.0 es both).1,
       );

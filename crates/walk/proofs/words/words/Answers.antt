@@ -46,13 +46,13 @@ found : (c : goal.In-Whole)
     c.args.n c.in-Whole.count
 found c =
      let a = c.args in
-    found_by a.start.now a.end.now a.left.now a.n c.in-Whole.count c.requires.start_in_bounds.0 (sym c.count.ensures ∙ c.in-Whole.is)
+    found_by a.start.now a.end.now a.left.now a.n c.in-Whole.count c.requires.room.0 (sym c.count.ensures ∙ c.in-Whole.is)
 
 pub write-requires : goal.write-requires
 write-requires c =
      record {
       listed = (c.requires.listed.0, (found (goal.at.write-requires c).In-Whole).sure);
-      count_in_bounds = (omega (arith, (found (goal.at.write-requires c).In-Whole).few), omega (arith, (found (goal.at.write-requires c).In-Whole).few), omega (arith, (found (goal.at.write-requires c).In-Whole).few), omega arith);
+      room = (omega (arith, (found (goal.at.write-requires c).In-Whole).few), omega (arith, (found (goal.at.write-requires c).In-Whole).few), omega (arith, (found (goal.at.write-requires c).In-Whole).few), omega arith);
     }
 
 pub overflow_cast-result : goal.overflow_cast-result

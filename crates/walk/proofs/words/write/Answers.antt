@@ -11,7 +11,7 @@ use Rattle.walk.proofs.words.write.Goals.{After-wide, At-loop-i, In-loop-i, Star
 
 -- the three rows have room
 room : (s : goal.Start) → Roomy s.args.count s.args.word_offset.now s.args.word_id.now s.args.word_kind.now
-room s = record { offsets = s.requires.count_in_bounds.0; ids = s.requires.count_in_bounds.1; kinds = s.requires.count_in_bounds.2 }
+room s = record { offsets = s.requires.room.0; ids = s.requires.room.1; kinds = s.requires.room.2 }
 
 pub loop-i-init : goal.loop-i-init
 loop-i-init c =
