@@ -20,7 +20,6 @@ use Rattle.ground.specs.declared.answer.Answer.TheVariants.{NotUtf8, TooLong, Un
 use Rattle.ground.specs.declared.answer.Answer.TheVariants.{BadKind, OutOfOrder, BadSpan, BadId}
 use Rattle.ground.specs.declared.charge.Mode.{Mode}
 use Rattle.ground.specs.declared.text.Checked.{Checked}
-use Rattle.ground.specs.declared.text.Checked.TheVariants as Checked
 use Rattle.ground.proofs.TextLaws.{sizes_within}
 use Rattle.ground.proofs.CharacterLaws.{passed as text-passed}
 use Rattle.checks.specs.Job.{Job, JobRows, character_count, candidate_count}

@@ -1,5 +1,6 @@
 // What document 01 puts under the lattice: the word entry, the text, the matrix and the charge.
 #![tactic(auto)]
+
 pub mod answer;
 pub mod charge;
 pub mod entry;

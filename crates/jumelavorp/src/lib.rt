@@ -1,5 +1,6 @@
 // The C library. Each function hands its rows on and returns the four numbers of the answer; include/jumelavorp.h declares it.
 #![tactic(auto)]
+
 ghost use Rattle.checks.specs.Job.{job, job_rows};
 ghost use Rattle.jumelavorp.specs.Promise.{Characters, Segment, WalkBack};
 

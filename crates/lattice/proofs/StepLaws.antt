@@ -10,7 +10,6 @@ use lib.Seq.{get_or-append_seam}
 use lib.IntN.{ℤ, pos, ◌+ℤ◌}
 use Rattle.ground.specs.Entry.{none_link}
 use Rattle.ground.specs.Matrix.{matrix_row}
-use Rattle.ground.specs.Charge.{charge}
 use Rattle.ground.proofs.EntryLaws.{entry_fits}
 use Rattle.ground.proofs.MatrixLaws.{joint_row, row_length}
 use Rattle.ground.proofs.ChargeLaws.{charge_most}

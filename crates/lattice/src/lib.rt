@@ -1,5 +1,6 @@
 // The lattice (document 01, pieces 5 and 6) over flat rows: relaxation, rows, forward pass.
 #![tactic(auto)]
+
 pub mod forward;
 pub mod relaxation;
 pub mod rows;

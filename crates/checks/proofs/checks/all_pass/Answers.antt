@@ -2,7 +2,6 @@
 use Prim.Native.Nat.{ℕ, ◌<◌}
 use mathlib.Core.Path.{◌∙◌, sym}
 use mathlib.Core.Bool.{true≢false}
-use borrow.Author.Rules.{rules}
 use borrow.Author.Tests.{ltb-true, ltb-false}
 use native.Mathlib.Omega.{arith}
 use lib.ListN.{length}
@@ -52,7 +51,7 @@ returns-then-height-ids c e = absurd (true≢false (sym e))
 
 pub returns : goal.returns
 returns c e =
-      let a = c.args in
+    let a = c.args in
     let highest = ltb-true c.highest_ids-ids.result.right a.width e in
     none_refused a.n a.start.now a.end.now a.kind.now a.entry.now a.height a.width
     (record {

@@ -1,13 +1,8 @@
 -- The loop's invariant: the flag is up if one of the candidates before i starts below the one before it; the first cannot. The measure is how many are left.
 -- Assumes nothing.
 use Prim.Native.Nat.{◌-◌, ◌≤◌}
-use mathlib.Core.Path.{ap, ◌∙◌}
-use borrow.Author.Rules.{rules}
-use native.Mathlib.Omega.{arith}
 use lib.ListN.{length}
-use Rattle.checks.specs.Inner.{NoneAbove, flag_of, out_of_order}
-use Rattle.checks.proofs.CheckLaws.{previous}
-use Rattle.checks.proofs.SweepLaws.{none_yet, one_more}
+use Rattle.checks.specs.Inner.{NoneAbove, out_of_order}
 use Rattle.checks.proofs.checks.any_below_previous.Given as goal
 
 abbrev pub invariant-loop-i : goal.invariant-loop-i

@@ -1,11 +1,8 @@
 -- The loop's invariant: the flag is up if one of the candidates before i has an end that is not above its start. The measure is how many are left.
 -- Assumes nothing.
 use Prim.Native.Nat.{◌-◌}
-use borrow.Author.Rules.{rules}
-use native.Mathlib.Omega.{arith}
 use lib.ListN.{length}
 use Rattle.checks.specs.Inner.{NoneAbove, not_above}
-use Rattle.checks.proofs.SweepLaws.{none_yet, one_more}
 use Rattle.checks.proofs.checks.any_not_above.Given as goal
 
 abbrev pub invariant-loop-i : goal.invariant-loop-i

@@ -2,7 +2,6 @@
 use mathlib.Core.Path.{◌≡◌, ◌∙◌, sym}
 use mathlib.Core.Bool.{false}
 use mathlib.Core.Option.{or_else}
-use borrow.Author.Rules.{rules}
 use lib.ListN.{get_or}
 use lib.Dec.{ltb}
 use Rattle.ground.specs.Limits.{kind_limit}
@@ -35,12 +34,12 @@ returns-then-below_previous c = rw (kind_fine (goal.at.returns-then-below_previo
 pub returns-then-bad_span : goal.returns-then-bad_span
 unfolding or_else
 returns-then-bad_span c =
-     rw (kind_fine (goal.at.returns-then-bad_span c).Else-bad_kind, order_fine (goal.at.returns-then-bad_span c).Else-below_previous, sym c.bad_span.ensures ∙ c.if-bad_span.true)
+    rw (kind_fine (goal.at.returns-then-bad_span c).Else-bad_kind, order_fine (goal.at.returns-then-bad_span c).Else-below_previous, sym c.bad_span.ensures ∙ c.if-bad_span.true)
 
 pub returns-then-bad_id : goal.returns-then-bad_id
 unfolding or_else
 returns-then-bad_id c =
-      rw (
+    rw (
       kind_fine (goal.at.returns-then-bad_id c).Else-bad_kind,
       order_fine (goal.at.returns-then-bad_id c).Else-below_previous,
       span_fine (goal.at.returns-then-bad_id c).Else-bad_span,
@@ -50,7 +49,7 @@ returns-then-bad_id c =
 pub returns : goal.returns
 unfolding or_else
 returns c =
-      rw (
+    rw (
       kind_fine (goal.at.returns c).Else-bad_kind,
       order_fine (goal.at.returns c).Else-below_previous,
       span_fine (goal.at.returns c).Else-bad_span,

@@ -1,6 +1,5 @@
 -- Where the sweep finds nothing, there is no refusal. Assumes nothing.
 use mathlib.Core.Path.{ap, sym}
-use borrow.Author.Rules.{rules}
 use Rattle.checks.specs.Inner.{verdict_of}
 use Rattle.checks.proofs.checks.check_candidates.Goals as goal
 

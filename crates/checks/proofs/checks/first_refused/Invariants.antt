@@ -1,14 +1,8 @@
 -- The loop's invariant: the first refusal from k on is the first of all. The measure is how many candidates are left. Assumes nothing.
-use Prim.Native.Nat.{ℕ, ◌+◌, ◌-◌, ◌≤◌}
-use mathlib.Core.Path.{◌≡◌, ap, ◌∙◌, sym}
-use mathlib.Core.Option.{Option, or_else}
-use borrow.Author.Rules.{rules}
-use native.Mathlib.Omega.{arith}
+use Prim.Native.Nat.{◌-◌, ◌≤◌}
+use mathlib.Core.Path.{◌≡◌}
 use lib.ListN.{length}
-use Rattle.ground.specs.declared.answer.Answer.{Answer}
 use Rattle.checks.specs.Checks.{candidate_refused, candidates_refused, first_refused}
-use Rattle.checks.specs.Inner.{verdict_of}
-use Rattle.checks.proofs.CheckLaws.{first_step, or_none, or_some, refusal, verdict_told}
 use Rattle.checks.proofs.checks.first_refused.Given as goal
 
 abbrev pub invariant-loop-k : goal.invariant-loop-k

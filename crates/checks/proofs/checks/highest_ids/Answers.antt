@@ -1,9 +1,6 @@
-use Prim.Native.Nat.{◌-◌}
 use mathlib.Core.Path.{ap}
-use borrow.Author.Rules.{rules}
 use native.Mathlib.Omega.{arith}
 use Rattle.ground.specs.declared.entry.Entry.{Entry}
-use Rattle.checks.specs.Inner.{NoneAbove, left_id_of, right_id_of}
 use Rattle.checks.proofs.SweepLaws.{none_yet, one_more}
 use Rattle.checks.proofs.checks.highest_ids.Goals as goal
 
@@ -12,7 +9,7 @@ loop-i-init c = (none_yet _, none_yet _)
 
 pub loop-i-preserved : goal.loop-i-preserved
 loop-i-preserved c =
-     let read = c.read-word.ensures in
+    let read = c.read-word.ensures in
     let left = ap (λ (e : Entry). e.left_id) read in
     let right = ap (λ (e : Entry). e.right_id) read in (
       one_more _ _ _ _ c.loop-i.invariant.0 c.higher-left.ensures.0 (omega (arith, c.higher-left.ensures.1)),

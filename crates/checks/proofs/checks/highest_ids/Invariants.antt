@@ -1,11 +1,6 @@
 -- The loop's invariant: none of the ids before i is above the highest. The measure is how many are left. Assumes nothing.
 use Prim.Native.Nat.{◌-◌}
-use mathlib.Core.Path.{ap}
-use borrow.Author.Rules.{rules}
-use native.Mathlib.Omega.{arith}
-use Rattle.ground.specs.declared.entry.Entry.{Entry}
 use Rattle.checks.specs.Inner.{NoneAbove, left_id_of, right_id_of}
-use Rattle.checks.proofs.SweepLaws.{none_yet, one_more}
 use Rattle.checks.proofs.checks.highest_ids.Given as goal
 
 abbrev pub invariant-loop-i : goal.invariant-loop-i

@@ -1,8 +1,4 @@
-use Prim.Native.Nat.{◌-◌}
-use borrow.Author.Rules.{rules}
 use native.Mathlib.Omega.{arith}
-use lib.ListN.{length}
-use Rattle.checks.specs.Inner.{NoneAbove, in_row}
 use Rattle.checks.proofs.SweepLaws.{none_yet, one_more}
 use Rattle.checks.proofs.checks.highest_kind.Goals as goal
 

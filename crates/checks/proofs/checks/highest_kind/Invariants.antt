@@ -1,10 +1,7 @@
 -- The loop's invariant: none of the kinds before i is above the highest. The measure is how many are left. Assumes nothing.
 use Prim.Native.Nat.{◌-◌}
-use borrow.Author.Rules.{rules}
-use native.Mathlib.Omega.{arith}
 use lib.ListN.{length}
 use Rattle.checks.specs.Inner.{NoneAbove, in_row}
-use Rattle.checks.proofs.SweepLaws.{none_yet, one_more}
 use Rattle.checks.proofs.checks.highest_kind.Given as goal
 
 abbrev pub invariant-loop-i : goal.invariant-loop-i

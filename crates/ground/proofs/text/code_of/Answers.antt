@@ -1,7 +1,6 @@
 -- The bits are taken byte by byte. Assumes nothing.
 use Prim.Native.Nat.{ℕ, ◌+◌, ◌-◌, ◌*◌, ◌%◌}
 use mathlib.Core.Path.{◌≡◌, ap, ◌∙◌, sym}
-use borrow.Author.Rules.{rules}
 use native.Mathlib.Omega.{arith}
 use lib.ListN.{take, drop, get_or}
 use Rattle.ground.proofs.LetterLaws.{code_sized, six_next}

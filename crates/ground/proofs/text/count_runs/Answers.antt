@@ -2,9 +2,9 @@ use Prim.Native.Nat.{ℕ, suc, ◌+◌, ◌-◌, ◌≤◌}
 use mathlib.Core.Path.{◌≡◌, refl, ap, ◌∙◌, subst}
 use mathlib.Core.List.{◌++◌}
 use native.Mathlib.Omega.{arith}
-use lib.ListN.{length, take, get_or, set, length-set}
+use lib.ListN.{take, get_or, set, length-set}
 use lib.Seq.{get_or-set_same}
-use Rattle.ground.specs.Filling.{is_set, counted}
+use Rattle.ground.specs.Filling.{is_set}
 use Rattle.ground.proofs.RowLaws.{behind, counted_none, counted_more, run_most}
 use Rattle.ground.proofs.text.count_runs.Goals as goal
 

@@ -1,13 +1,10 @@
 -- The loop's invariant: the places from i on are counted, and those before i are as they came.
 -- A run is no longer than the places that are left, so it fits. Assumes nothing.
-use Prim.Native.Nat.{ℕ, suc, ◌+◌, ◌-◌, ◌≤◌}
-use mathlib.Core.Path.{◌≡◌, refl, ap, ◌∙◌, subst}
+use Prim.Native.Nat.{◌-◌, ◌≤◌}
+use mathlib.Core.Path.{◌≡◌}
 use mathlib.Core.List.{◌++◌}
-use native.Mathlib.Omega.{arith}
-use lib.ListN.{length, take, get_or, set, length-set}
-use lib.Seq.{get_or-set_same}
-use Rattle.ground.specs.Filling.{is_set, counted}
-use Rattle.ground.proofs.RowLaws.{behind, counted_none, counted_more, run_most}
+use lib.ListN.{length, take, get_or}
+use Rattle.ground.proofs.RowLaws.{behind}
 use Rattle.ground.proofs.text.count_runs.Given as goal
 
 abbrev pub invariant-loop-i : goal.invariant-loop-i

@@ -1,12 +1,9 @@
-use Prim.Native.Nat.{ℕ, ◌+◌, ◌-◌, ◌≤◌}
+use Prim.Native.Nat.{ℕ, ◌+◌, ◌≤◌}
 use mathlib.Core.Path.{◌∙◌, sym, subst}
-use mathlib.Core.List.{List}
-use borrow.Author.Rules.{rules}
 use native.Mathlib.Omega.{arith}
 use lib.ListN.{length, drop, set, length-set}
 use Rattle.ground.specs.Text.{letters, offsets}
 use Rattle.ground.specs.Filling.{letter_of_size, kanji_bits}
-use Rattle.ground.specs.declared.text.Letter.{Letter}
 use Rattle.ground.proofs.Filled.{Filled, filled_none, filled_more, filled_all}
 use Rattle.ground.proofs.LetterLaws.{letter_ends}
 use Rattle.ground.proofs.TextLaws.{not_ill_formed}

@@ -2,7 +2,6 @@
 use Prim.Native.Nat.{ℕ, ◌≤◌}
 use mathlib.Core.Path.{◌≡◌, ap, ◌∙◌, sym}
 use mathlib.Core.List.{List}
-use borrow.Author.Rules.{rules}
 use native.Mathlib.Omega.{arith}
 use lib.ListN.{length, drop, get_or, length-drop}
 use Rattle.ground.specs.Text.{letter_at}

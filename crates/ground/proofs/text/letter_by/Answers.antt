@@ -1,10 +1,7 @@
 -- Too few bytes, or what stands behind the first of them, decide. Assumes nothing.
-use Prim.Native.Nat.{ℕ, ◌-◌, min}
+use Prim.Native.Nat.{◌-◌, min}
 use mathlib.Core.Path.{◌≡◌, ap, ◌∙◌, sym}
 use mathlib.Core.Bool.{Bool, true, false, cond}
-use mathlib.Core.List.{List}
-use borrow.Author.Rules.{rules}
-use borrow.Author.Tests.{not-true, not-false}
 use native.Mathlib.Omega.{arith}
 use lib.ListN.{length, take, drop, get_or, length-take, length-drop}
 use Rattle.ground.specs.Text.{letter_of}

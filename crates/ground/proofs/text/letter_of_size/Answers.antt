@@ -1,7 +1,6 @@
 -- The code point is `code_of`'s. Assumes nothing.
 use Prim.Native.Nat.{ℕ}
 use mathlib.Core.Path.{ap}
-use borrow.Author.Rules.{rules}
 use Rattle.ground.proofs.text.letter_of_size.Goals as goal
 
 pub returns : goal.returns

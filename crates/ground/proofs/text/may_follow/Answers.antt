@@ -1,10 +1,7 @@
 -- What may follow is told byte by byte. Assumes nothing.
-use Prim.Native.Nat.{ℕ, suc, ◌-◌}
+use Prim.Native.Nat.{suc, ◌-◌}
 use mathlib.Core.Path.{◌≡◌, ◌∙◌, sym}
 use mathlib.Core.Bool.{Bool, true, false, ◌&&◌, and-true}
-use mathlib.Core.List.{List}
-use borrow.Author.Rules.{rules}
-use borrow.Author.Tests.{not-true, not-false}
 use native.Mathlib.Omega.{arith}
 use lib.ListN.{take, drop}
 use Rattle.ground.specs.Text.{may_follow, all_later}

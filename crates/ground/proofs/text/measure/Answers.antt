@@ -1,10 +1,8 @@
-use Prim.Native.Nat.{ℕ, ◌+◌, ◌-◌, ◌≤◌}
+use Prim.Native.Nat.{◌+◌, ◌≤◌}
 use mathlib.Core.Path.{◌≡◌, ap, ◌∙◌, sym}
-use mathlib.Core.List.{List}
-use borrow.Author.Rules.{rules}
 use native.Mathlib.Omega.{arith}
 use lib.ListN.{length, drop}
-use Rattle.ground.specs.Text.{letter_at, letters, sizes}
+use Rattle.ground.specs.Text.{letter_at, sizes}
 use Rattle.ground.specs.declared.text.Decoded.TheVariants.{Whole}
 use Rattle.ground.proofs.LetterLaws.{letter_ends}
 use Rattle.ground.proofs.TextLaws.{letters_next, letters_end, letters_ill_formed}

@@ -1,14 +1,8 @@
 -- The loop's invariant: what is counted, with the characters of what is left, are the text's. Assumes nothing.
-use Prim.Native.Nat.{ℕ, ◌+◌, ◌-◌, ◌≤◌}
-use mathlib.Core.Path.{◌≡◌, ap, ◌∙◌, sym}
-use mathlib.Core.List.{List}
-use borrow.Author.Rules.{rules}
-use native.Mathlib.Omega.{arith}
+use Prim.Native.Nat.{◌+◌, ◌-◌, ◌≤◌}
+use mathlib.Core.Path.{◌≡◌}
 use lib.ListN.{length, drop}
-use Rattle.ground.specs.Text.{letter_at, letters, sizes}
-use Rattle.ground.specs.declared.text.Decoded.TheVariants.{Whole}
-use Rattle.ground.proofs.LetterLaws.{letter_ends}
-use Rattle.ground.proofs.TextLaws.{letters_next, letters_end, letters_ill_formed}
+use Rattle.ground.specs.Text.{letters, sizes}
 use Rattle.ground.proofs.text.measure.Given as goal
 
 abbrev pub invariant-loop-at : goal.invariant-loop-at

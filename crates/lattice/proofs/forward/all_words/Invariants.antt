@@ -1,16 +1,9 @@
 -- The loop's invariant: the rows hold the entries before word k goes in, over what they held at first. Assumes nothing.
-use Prim.Native.Nat.{suc, ◌+◌, ◌-◌, ◌≤◌}
-use native.Mathlib.Omega.{arith}
-use borrow.Author.Tests.{lt-ltb, le-ltb}
+use Prim.Native.Nat.{suc, ◌-◌, ◌≤◌}
 use lib.ListN.{length}
-use Rattle.lattice.specs.Words.{Given, given, count, candidates_to, up_from}
-use Rattle.lattice.specs.Lattice.{grow, entries_to}
-use Rattle.lattice.specs.Rows.{LatticeRows, rows, Filled}
+use Rattle.lattice.specs.Words.{given}
+use Rattle.lattice.specs.Rows.{rows, Filled}
 use Rattle.lattice.specs.Inner.{entries_before, SizedBefore}
-use Rattle.lattice.proofs.LatticeLaws.{entries_length}
-use Rattle.lattice.proofs.FillLaws.{SameLengths, fill_fill, fill_held, fill_lengths, room_kept}
-use Rattle.lattice.proofs.StepLaws.{sized_start}
-use Rattle.lattice.proofs.TwoLaws.{before_length, beside_low, beside_listed}
 use Rattle.lattice.proofs.forward.all_words.Given as goal
 
 abbrev pub invariant-loop-k : goal.invariant-loop-k

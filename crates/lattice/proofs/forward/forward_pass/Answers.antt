@@ -1,5 +1,4 @@
 -- What the start mark leaves is what the words ask; of two fillings the last is seen. Assumes nothing.
-use borrow.Author.Rules.{rules}
 use Prim.Native.Nat.{◌+◌}
 use mathlib.Core.List.{[], ◌∷◌}
 use native.Mathlib.Omega.{arith}
@@ -26,7 +25,7 @@ T₂ c = let l = c.all_words.new in rows l.first l.last l.left l.cost l.next
 
 pub all_words-requires : goal.all_words-requires
 all_words-requires c =
-     let f = c.start_mark.ensures in record {
+    let f = c.start_mark.ensures in record {
       accepted = c.requires.accepted;
       room = (
         room_kept c.args.n (count (G (goal.at.all_words-requires c).Start) + 2) (T (goal.at.all_words-requires c).Start) _ c.requires.room
@@ -38,12 +37,12 @@ all_words-requires c =
 -- all rows, from what they held at first
 whole : (c : goal.After-all_words) → Filled c.args.n (lattice c.args.n (G (goal.at.After-all_words c).Start)) (T (goal.at.After-all_words c).Start) (T₂ c)
 whole c =
-     fill_fill c.args.n (start_mark ∷ []) (lattice c.args.n (G (goal.at.After-all_words c).Start)) (T (goal.at.After-all_words c).Start) _ _ c.start_mark.ensures c.all_words.ensures.filled
+    fill_fill c.args.n (start_mark ∷ []) (lattice c.args.n (G (goal.at.After-all_words c).Start)) (T (goal.at.After-all_words c).Start) _ _ c.start_mark.ensures c.all_words.ensures.filled
     (omega (arith, lattice_length (G (goal.at.After-all_words c).Start) c.args.n))
 
 lengths : (c : goal.After-all_words) → SameLengths (T (goal.at.After-all_words c).Start) (T₂ c)
 lengths c =
-     fill_lengths c.args.n (count (G (goal.at.After-all_words c).Start) + 2) (lattice c.args.n (G (goal.at.After-all_words c).Start)) (T (goal.at.After-all_words c).Start) _ c.requires.room (omega (arith, lattice_length (G (goal.at.After-all_words c).Start) c.args.n)) (whole c)
+    fill_lengths c.args.n (count (G (goal.at.After-all_words c).Start) + 2) (lattice c.args.n (G (goal.at.After-all_words c).Start)) (T (goal.at.After-all_words c).Start) _ c.requires.room (omega (arith, lattice_length (G (goal.at.After-all_words c).Start) c.args.n)) (whole c)
 
 pub shape_of-first : goal.shape_of-first
 shape_of-first c = (lengths (goal.at.shape_of-first c).After-all_words).first
@@ -62,6 +61,6 @@ shape_of-next c = (lengths (goal.at.shape_of-next c).After-all_words).next
 
 pub returns : goal.returns
 returns c = record {
-      filled = whole (goal.at.returns c).After-all_words;
-      all_in_range = c.all_words.ensures.all_in_range;
-    }
+  filled = whole (goal.at.returns c).After-all_words;
+  all_in_range = c.all_words.ensures.all_in_range;
+}

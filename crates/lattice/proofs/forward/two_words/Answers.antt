@@ -1,5 +1,4 @@
 -- The rows hold the entries so far, so the relaxation finds what word k and the word beside it take, and `enter` adds an entry for each. Assumes nothing.
-use borrow.Author.Rules.{rules}
 use Prim.Native.Nat.{ℕ, suc, ◌+◌, ◌≤◌}
 use mathlib.Core.Path.{◌≡◌, refl, sym, ap, ◌∙◌, subst}
 use mathlib.Core.List.{List}
@@ -10,8 +9,8 @@ use mir.Syntax.{w32}
 use mir.Val.{to_z, of_z}
 use mir.Facts.{to_z-of_z}
 use Rattle.ground.specs.Matrix.{matrix_row}
-use Rattle.lattice.specs.Words.{Word, Given, given, count}
-use Rattle.lattice.specs.Lattice.{LatticeEntry, mark, taken, joints_of, entries_to}
+use Rattle.lattice.specs.Words.{Given, given, count}
+use Rattle.lattice.specs.Lattice.{mark, taken, joints_of, entries_to}
 use Rattle.lattice.specs.Rows.{LatticeRows, rows, Filled}
 use Rattle.lattice.specs.Inner.{taken_of, in_row, Held, NearTaken, entered, EnterableAfter, one_of, other_of, word_at, beside_of, incoming_of, Readable, entries_before, SizedBefore}
 use Rattle.lattice.specs.declared.forward.Incoming.{Incoming}
@@ -37,11 +36,11 @@ beside_is c = c.beside-other.ensures
 
 word_read : (c : goal.After-word_at-word) → Read c.word_at-word.result ((word_at c.args.n (G (goal.at.After-word_at-word c).Start) c.args.k))
 word_read c =
-     subst (λ (i : Incoming). Read i (word_at c.args.n (G (goal.at.After-word_at-word c).Start) c.args.k)) (sym c.word_at-word.ensures.value) (read_word c.args.n (G (goal.at.After-word_at-word c).Start) c.args.k)
+    subst (λ (i : Incoming). Read i (word_at c.args.n (G (goal.at.After-word_at-word c).Start) c.args.k)) (sym c.word_at-word.ensures.value) (read_word c.args.n (G (goal.at.After-word_at-word c).Start) c.args.k)
 
 other_read : (c : goal.After-word_at-other_word) → Read c.word_at-other_word.result ((word_at c.args.n (G (goal.at.After-word_at-other_word c).Start) (beside_of c.args.start.now c.args.k)))
 other_read c =
-     let a = c.args in
+    let a = c.args in
     subst (λ (i : Incoming). Read i (word_at c.args.n (G (goal.at.After-word_at-other_word c).Start) (beside_of c.args.start.now c.args.k)))
     (sym (c.word_at-other_word.ensures.value ∙ ap (incoming_of a.n a.start.now a.end.now a.extra.now a.entry.now) (beside_is (goal.at.After-word_at-other_word c).After-beside-other)))
     (read_word a.n (G (goal.at.After-word_at-other_word c).Start) (beside_of c.args.start.now c.args.k))
@@ -87,43 +86,42 @@ same_start : (s : goal.Start) → (word_at s.args.n (G s) (beside_of s.args.star
 same_start s = beside_start s.args.n (G s) s.requires.accepted.1 s.args.k s.requires.accepted.0
 
 both_hold : (c : goal.After-row-other_row) → Holds (goal.at.After-row-other_row c).Start (word_at c.args.n (G (goal.at.After-row-other_row c).Start) c.args.k).start c.row-row.result.now × Holds (goal.at.After-row-other_row c).Start (word_at c.args.n (G (goal.at.After-row-other_row c).Start) c.args.k).start c.row-other_row.result.now
-both_hold c =
- (
-      holds (goal.at.After-row-other_row c).Start c.args.k c.requires.accepted.0 c.row-row.result.now (row_is (goal.at.After-row-other_row c).After-row-row),
-      subst (λ (position : ℕ). Holds (goal.at.After-row-other_row c).Start position c.row-other_row.result.now) (same_start (goal.at.After-row-other_row c).Start) (holds (goal.at.After-row-other_row c).Start (beside_of c.args.start.now c.args.k) (other_listed (goal.at.After-row-other_row c).Start) c.row-other_row.result.now (other_row_is c)),
-    )
+both_hold c = (
+  holds (goal.at.After-row-other_row c).Start c.args.k c.requires.accepted.0 c.row-row.result.now (row_is (goal.at.After-row-other_row c).After-row-row),
+  subst (λ (position : ℕ). Holds (goal.at.After-row-other_row c).Start position c.row-other_row.result.now) (same_start (goal.at.After-row-other_row c).Start) (holds (goal.at.After-row-other_row c).Start (beside_of c.args.start.now c.args.k) (other_listed (goal.at.After-row-other_row c).Start) c.row-other_row.result.now (other_row_is c)),
+)
 
 -- at the position that the code has
 both_held : (c : goal.After-row-other_row) → let position = c.word_at-word.result.start in
     Holds (goal.at.After-row-other_row c).Start position c.row-row.result.now × Holds (goal.at.After-row-other_row c).Start position c.row-other_row.result.now
 both_held c =
-     subst (λ (position : ℕ). Holds (goal.at.After-row-other_row c).Start position c.row-row.result.now × Holds (goal.at.After-row-other_row c).Start position c.row-other_row.result.now)
+    subst (λ (position : ℕ). Holds (goal.at.After-row-other_row c).Start position c.row-row.result.now × Holds (goal.at.After-row-other_row c).Start position c.row-other_row.result.now)
     (sym (word_read (goal.at.After-row-other_row c).After-word_at-word).start)
     (both_hold c)
 
 -- is found by the relaxation
 found : (c : goal.After-relax-pair) → one_of c.relax-pair.result ≡ (taken_of (taken (joints_of (G (goal.at.After-relax-pair c).Start)) ((entries_to (G (goal.at.After-relax-pair c).Start) c.args.k)) ((word_at c.args.n (G (goal.at.After-relax-pair c).Start) c.args.k))))
 found c =
-     let row = c.row-row.result.now in
+    let row = c.row-row.result.now in
     (c.relax-pair.ensures.taken (entries_to (G (goal.at.After-relax-pair c).Start) c.args.k) (both_held (goal.at.After-relax-pair c).After-row-other_row)).0
     ∙ ap (λ (position : ℕ). taken_of (taken (in_row row) (entries_to (G (goal.at.After-relax-pair c).Start) c.args.k) (mark position))) (word_read (goal.at.After-relax-pair c).After-word_at-word).start
     ∙ row_taken (G (goal.at.After-relax-pair c).Start) (word_at c.args.n (G (goal.at.After-relax-pair c).Start) c.args.k) row (row_is (goal.at.After-relax-pair c).After-row-row) (entries_to (G (goal.at.After-relax-pair c).Start) c.args.k)
 
 other_found : (c : goal.After-relax-pair) → other_of c.relax-pair.result ≡ (taken_of (taken (joints_of (G (goal.at.After-relax-pair c).Start)) ((entries_to (G (goal.at.After-relax-pair c).Start) c.args.k)) ((word_at c.args.n (G (goal.at.After-relax-pair c).Start) (beside_of c.args.start.now c.args.k)))))
 other_found c =
-     let row = c.row-other_row.result.now in
+    let row = c.row-other_row.result.now in
     (c.relax-pair.ensures.taken (entries_to (G (goal.at.After-relax-pair c).Start) c.args.k) (both_held (goal.at.After-relax-pair c).After-row-other_row)).1
     ∙ ap (λ (position : ℕ). taken_of (taken (in_row row) (entries_to (G (goal.at.After-relax-pair c).Start) c.args.k) (mark position))) ((word_read (goal.at.After-relax-pair c).After-word_at-word).start ∙ sym (same_start (goal.at.After-relax-pair c).Start))
     ∙ row_taken (G (goal.at.After-relax-pair c).Start) (word_at c.args.n (G (goal.at.After-relax-pair c).Start) (beside_of c.args.start.now c.args.k)) row (other_row_is (goal.at.After-relax-pair c).After-row-other_row) (entries_to (G (goal.at.After-relax-pair c).Start) c.args.k)
 
 near : (c : goal.After-relax-pair) → NearTaken ((word_at c.args.n (G (goal.at.After-relax-pair c).Start) c.args.k)).start ((taken_of (taken (joints_of (G (goal.at.After-relax-pair c).Start)) ((entries_to (G (goal.at.After-relax-pair c).Start) c.args.k)) ((word_at c.args.n (G (goal.at.After-relax-pair c).Start) c.args.k)))))
 near c =
-     subst (NearTaken (word_at c.args.n (G (goal.at.After-relax-pair c).Start) c.args.k).start) (found c)
+    subst (NearTaken (word_at c.args.n (G (goal.at.After-relax-pair c).Start) c.args.k).start) (found c)
     (subst (λ (position : ℕ). NearTaken position (one_of c.relax-pair.result)) (word_read (goal.at.After-relax-pair c).After-word_at-word).start c.relax-pair.ensures.near_taken.0)
 
 other_near : (c : goal.After-relax-pair) → NearTaken ((word_at c.args.n (G (goal.at.After-relax-pair c).Start) (beside_of c.args.start.now c.args.k))).start ((taken_of (taken (joints_of (G (goal.at.After-relax-pair c).Start)) ((entries_to (G (goal.at.After-relax-pair c).Start) c.args.k)) ((word_at c.args.n (G (goal.at.After-relax-pair c).Start) (beside_of c.args.start.now c.args.k))))))
 other_near c =
-     subst (NearTaken (word_at c.args.n (G (goal.at.After-relax-pair c).Start) (beside_of c.args.start.now c.args.k)).start) (other_found c)
+    subst (NearTaken (word_at c.args.n (G (goal.at.After-relax-pair c).Start) (beside_of c.args.start.now c.args.k)).start) (other_found c)
     (subst (λ (position : ℕ). NearTaken position (other_of c.relax-pair.result))
     ((word_read (goal.at.After-relax-pair c).After-word_at-word).start ∙ sym (same_start (goal.at.After-relax-pair c).Start))
     c.relax-pair.ensures.near_taken.1)
@@ -184,7 +182,7 @@ entered_is : (s : goal.Start) (x e : ℕ) (t : Taken) (z : ℤ) (y e' : ℕ) (t'
 entered_is s x e t z y e' t' z' h = rw (h.number, h.end, h.took, h.own, h.other_number, h.other_end, h.other_took, h.other_own)
 
 -- so it is with what is handed here
-handed : (c : goal.After-other_of) →     Handed (goal.at.After-other_of c).Start
+handed : (c : goal.After-other_of) → Handed (goal.at.After-other_of c).Start
     (c.args.k + 1)
     c.word_at-word.result.end
     c.one_of.result
@@ -194,7 +192,7 @@ handed : (c : goal.After-other_of) →     Handed (goal.at.After-other_of c).Sta
     c.other_of.result
     (to_z w32 (of_z w32 c.word_at-other_word.result.own_cost))
 handed c =
-     record {
+    record {
       number = add-one c.args.k;
       end = (word_read (goal.at.After-other_of c).After-word_at-word).end;
       took = c.one_of.ensures ∙ found (goal.at.After-other_of c).After-relax-pair;
@@ -220,15 +218,15 @@ word_at-other_word-requires c = readable (goal.at.word_at-other_word-requires c)
 
 pub row-row-requires : goal.row-row-requires
 row-row-requires c =
-     rw (word_read (goal.at.row-row-requires c).After-word_at-word).left_id (inside c.args.n (G (goal.at.row-row-requires c).Start) c.requires.accepted.1 c.args.k c.requires.accepted.0).row
+    rw (word_read (goal.at.row-row-requires c).After-word_at-word).left_id (inside c.args.n (G (goal.at.row-row-requires c).Start) c.requires.accepted.1 c.args.k c.requires.accepted.0).row
 
 pub row-other_row-requires : goal.row-other_row-requires
 row-other_row-requires c =
-     rw (other_read (goal.at.row-other_row-requires c).After-word_at-other_word).left_id (inside c.args.n (G (goal.at.row-other_row-requires c).Start) c.requires.accepted.1 (beside_of c.args.start.now c.args.k) (other_listed (goal.at.row-other_row-requires c).Start)).row
+    rw (other_read (goal.at.row-other_row-requires c).After-word_at-other_word).left_id (inside c.args.n (G (goal.at.row-other_row-requires c).Start) c.requires.accepted.1 (beside_of c.args.start.now c.args.k) (other_listed (goal.at.row-other_row-requires c).Start)).row
 
 pub relax-pair-requires : goal.relax-pair-requires
 relax-pair-requires c =
-     ((entries_to (G (goal.at.relax-pair-requires c).Start) c.args.k), both_held (goal.at.relax-pair-requires c).After-row-other_row)
+    ((entries_to (G (goal.at.relax-pair-requires c).Start) c.args.k), both_held (goal.at.relax-pair-requires c).After-row-other_row)
 
 pub overflow_add-k : goal.overflow_add-k
 overflow_add-k c = omega (arith, c.requires.accepted.0, c.requires.accepted.1.few)
@@ -238,22 +236,22 @@ overflow_cast-k c = omega (arith, c.requires.accepted.0, c.requires.accepted.1.f
 
 pub overflow_cast-word-2 : goal.overflow_cast-word-2
 overflow_cast-word-2 c =
-     omega (arith, (word_read (goal.at.overflow_cast-word-2 c).After-word_at-word).end, (inside c.args.n (G (goal.at.overflow_cast-word-2 c).Start) c.requires.accepted.1 c.args.k c.requires.accepted.0).end, c.requires.accepted.1.characters)
+    omega (arith, (word_read (goal.at.overflow_cast-word-2 c).After-word_at-word).end, (inside c.args.n (G (goal.at.overflow_cast-word-2 c).Start) c.requires.accepted.1 c.args.k c.requires.accepted.0).end, c.requires.accepted.1.characters)
 
 pub one_of-requires : goal.one_of-requires
 one_of-requires c = tt
 
 pub overflow_add-other : goal.overflow_add-other
 overflow_add-other c =
-     omega (arith, beside_is (goal.at.overflow_add-other c).After-beside-other, other_listed (goal.at.overflow_add-other c).Start, c.requires.accepted.1.few)
+    omega (arith, beside_is (goal.at.overflow_add-other c).After-beside-other, other_listed (goal.at.overflow_add-other c).Start, c.requires.accepted.1.few)
 
 pub overflow_cast-other : goal.overflow_cast-other
 overflow_cast-other c =
-     omega (arith, beside_is (goal.at.overflow_cast-other c).After-beside-other, other_listed (goal.at.overflow_cast-other c).Start, c.requires.accepted.1.few)
+    omega (arith, beside_is (goal.at.overflow_cast-other c).After-beside-other, other_listed (goal.at.overflow_cast-other c).Start, c.requires.accepted.1.few)
 
 pub overflow_cast-other_word-2 : goal.overflow_cast-other_word-2
 overflow_cast-other_word-2 c =
-     omega (arith, (other_read (goal.at.overflow_cast-other_word-2 c).After-word_at-other_word).end, (inside c.args.n (G (goal.at.overflow_cast-other_word-2 c).Start) c.requires.accepted.1 (beside_of c.args.start.now c.args.k) (other_listed (goal.at.overflow_cast-other_word-2 c).Start)).end, c.requires.accepted.1.characters)
+    omega (arith, (other_read (goal.at.overflow_cast-other_word-2 c).After-word_at-other_word).end, (inside c.args.n (G (goal.at.overflow_cast-other_word-2 c).Start) c.requires.accepted.1 (beside_of c.args.start.now c.args.k) (other_listed (goal.at.overflow_cast-other_word-2 c).Start)).end, c.requires.accepted.1.characters)
 
 pub other_of-requires : goal.other_of-requires
 other_of-requires c = tt
@@ -263,12 +261,12 @@ enter_two-requires c = let parts = (ready (goal.at.enter_two-requires c).Start _
 
 pub overflow_add-result : goal.overflow_add-result
 overflow_add-result c =
-     omega (arith, beside_is (goal.at.overflow_add-result c).After-beside-other, other_listed (goal.at.overflow_add-result c).Start, c.requires.accepted.1.few)
+    omega (arith, beside_is (goal.at.overflow_add-result c).After-beside-other, other_listed (goal.at.overflow_add-result c).Start, c.requires.accepted.1.few)
 
 pub returns : goal.returns
 returns c =
-      let a = c.args in
-     let number = add-one c.beside-other.result ∙ ap suc (beside_is (goal.at.returns c).After-beside-other) in
+    let a = c.args in
+    let number = add-one c.beside-other.result ∙ ap suc (beside_is (goal.at.returns c).After-beside-other) in
     let (filled, sized) =
     both_in a.n (G (goal.at.returns c).Start) c.requires.accepted.1 a.k c.requires.accepted.0 (T (goal.at.returns c).Start) c.requires.room.0 c.requires.room.1 c.requires.accepted.2 (near (goal.at.returns c).After-relax-pair) (small (goal.at.returns c).After-word_at-word) ((taken_of (taken (joints_of (G (goal.at.returns c).Start)) (entries_to (G (goal.at.returns c).Start) c.args.k) (word_at c.args.n (G (goal.at.returns c).Start) (beside_of c.args.start.now c.args.k))))) refl (other_near (goal.at.returns c).After-relax-pair)
     (other_small (goal.at.returns c).After-word_at-other_word) in record {

@@ -1,5 +1,4 @@
 -- In each arm the mode is the arm's case; Normal charges nothing. Assumes nothing.
-use borrow.Author.Rules.{rules}
 use mathlib.Core.Path.{◌∙◌, subst}
 use mir.Syntax.{w32}
 use Rattle.ground.specs.Charge.{PricesFit}

@@ -1,19 +1,11 @@
 -- The loop's invariant is `Visited`, for every list of entries that the rows hold and each of the two rows of the matrix; the measure is how far the
 -- entry's number is from none, since each is higher than the one before. Assumes nothing.
-use borrow.Author.Rules.{rules}
-use Prim.Native.Nat.{ℕ, ◌-◌, ◌<◌}
-use mathlib.Core.Path.{◌≡◌, sym, ◌∙◌}
+use Prim.Native.Nat.{◌-◌}
 use mathlib.Core.List.{List}
-use mathlib.Core.Option.{some}
-use native.Mathlib.Omega.{arith}
-use lib.ListN.{get_or}
-use lib.IntN.{ℤ}
 use Rattle.ground.specs.Entry.{none_link}
-use Rattle.lattice.specs.Lattice.{LatticeEntry, mark, entry_numbered, against, cheaper, offer, taken}
-use Rattle.lattice.specs.Rows.{nexts}
-use Rattle.lattice.specs.Inner.{in_row, Near, Held, HeldBoth}
-use Rattle.lattice.specs.declared.relaxation.Offer.{Offer}
-use Rattle.lattice.proofs.GoingLaws.{Visited, Turn, turn, begin, again, onward, done, Told, told, near_against}
+use Rattle.lattice.specs.Lattice.{LatticeEntry, mark}
+use Rattle.lattice.specs.Inner.{in_row, Near, HeldBoth}
+use Rattle.lattice.proofs.GoingLaws.{Visited}
 use Rattle.lattice.proofs.relaxation.least_between.Given as goal
 
 abbrev pub invariant-loop-at : goal.invariant-loop-at

@@ -1,11 +1,10 @@
 -- Each part is read back as it is, and the sum's range is that of its parts. Assumes nothing.
-use borrow.Author.Rules.{rules}
 use Prim.Native.Nat.{ℕ, suc, ◌+◌, ◌<◌, ◌^◌}
 use mathlib.Core.Path.{◌≡◌, ◌∙◌, ap, ap₂}
 use native.Mathlib.Omega.{arith}
 use native.Mathlib.Numerals.{add-one}
 use lib.ListN.{get_or}
-use lib.IntN.{ℤ, pos, ◌+ℤ◌}
+use lib.IntN.{pos, ◌+ℤ◌}
 use lib.Signed.{mag}
 use mir.Syntax.{w32}
 use mir.Val.{to_z, of_z}
@@ -17,7 +16,7 @@ use Rattle.lattice.proofs.SizeLaws.{sum_up, sum_down, sum_fits, up_mag, down_mag
 use Rattle.lattice.proofs.relaxation.offer_of.Goals as goal
 use Rattle.lattice.proofs.relaxation.offer_of.Goals.{After-add-arg-1, After-add-joined, After-joint}
 
-cost_is : (c : goal.After-add-arg-1) →     to_z w32 (of_z w32 (get_or c.args.cost.now (c.args.k + 1) (pos 0))) ≡ (get_or c.args.cost.now (suc c.args.k) (pos 0))
+cost_is : (c : goal.After-add-arg-1) → to_z w32 (of_z w32 (get_or c.args.cost.now (c.args.k + 1) (pos 0))) ≡ (get_or c.args.cost.now (suc c.args.k) (pos 0))
 cost_is c =
     let s = c.args in
     back w32 (get_or s.cost.now (s.k + 1) (pos 0)) c.add-arg-1.given ∙ ap (λ (i : ℕ). get_or s.cost.now i (pos 0)) (add-one s.k)
@@ -48,7 +47,7 @@ add_is c =
 
 pub add-requires : goal.add-requires
 add-requires c =
-     let o = c.requires.1 in
+    let o = c.requires.1 in
     let x = (get_or c.args.cost.now (suc c.args.k) (pos 0)) in
     let y = (value_in c.args.row.now (entry_at c.args.entry.now c.args.k).right_id) in
     let z = charge_to c.args.start.now c.args.run.now c.args.mode c.args.position c.args.k in
@@ -59,7 +58,7 @@ add-requires c =
 
 pub returns : goal.returns
 returns c =
-     let o = c.requires.1 in
+    let o = c.requires.1 in
     let z = charge_to c.args.start.now c.args.run.now c.args.mode c.args.position c.args.k in
     let q : to_z w32 (of_z w32 c.add.result) ≡ (get_or c.args.cost.now (suc c.args.k) (pos 0)) +ℤ (value_in c.args.row.now (entry_at c.args.entry.now c.args.k).right_id) +ℤ pos z =
     back w32 c.add.result c.add.type_inv

@@ -1,7 +1,6 @@
 -- At 0 the start mark's joint is taken; elsewhere nothing, where the first link is none, or the least from the first to the last. Assumes nothing.
-use borrow.Author.Rules.{rules}
 use mathlib.Core.Path.{sym, ap, ◌∙◌}
-use Rattle.lattice.specs.Lattice.{mark, taken}
+use Rattle.lattice.specs.Lattice.{mark}
 use Rattle.lattice.specs.Inner.{taken_of, in_row}
 use Rattle.lattice.proofs.GoingLaws.{untaken, start_offer_lem}
 use Rattle.lattice.proofs.relaxation.relax.Goals as goal

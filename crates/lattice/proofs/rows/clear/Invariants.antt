@@ -1,12 +1,9 @@
 -- The loop's invariant: the places passed are none, over the row as it was. Assumes nothing.
-use Prim.Native.Nat.{ℕ, suc, ◌-◌, ◌≤◌}
-use mathlib.Core.Path.{◌≡◌, refl, ap, ◌∙◌}
-use mathlib.Core.List.{List}
-use native.Mathlib.Omega.{arith}
-use lib.ListN.{length, replicate, set}
+use Prim.Native.Nat.{suc, ◌-◌, ◌≤◌}
+use mathlib.Core.Path.{◌≡◌}
+use lib.ListN.{replicate}
 use Rattle.ground.specs.Entry.{none_link}
 use Rattle.ground.specs.Rows.{over}
-use Rattle.lattice.proofs.OverLaws.{over_replicate, replicate_room}
 use Rattle.lattice.proofs.rows.clear.Given as goal
 
 abbrev pub invariant-loop-position : goal.invariant-loop-position

@@ -2,7 +2,6 @@
 use Prim.Native.Nat.{ℕ, suc, ◌+◌, ◌-◌, ◌<◌, ◌^◌}
 use mathlib.Core.Path.{◌≡◌, ap, ◌∙◌, sym, subst}
 use mathlib.Core.List.{List}
-use borrow.Author.Rules.{rules}
 use native.Mathlib.Omega.{arith}
 use lib.ListN.{length, get_or, take, drop}
 use lib.Seq.{take_at}
@@ -11,12 +10,11 @@ use lib.Signed.{mag}
 use mir.Syntax.{w32}
 use mir.Val.{to_z, of_z}
 use Rattle.ground.specs.Text.{letters, offsets, runs}
-use Rattle.ground.specs.declared.text.Letter.{Letter}
 use Rattle.ground.specs.declared.answer.Answer.{Answer}
 use Rattle.ground.proofs.SignedLaws.{back}
 use Rattle.ground.proofs.RowLaws.{over_length, runs_length, offsets_length}
-use Rattle.lattice.specs.Words.{Given, given, count}
-use Rattle.lattice.specs.Lattice.{LatticeEntry, lattice}
+use Rattle.lattice.specs.Words.{Given, given}
+use Rattle.lattice.specs.Lattice.{lattice}
 use Rattle.lattice.specs.Rows.{LatticeRows, rows, lefts, Filled}
 use Rattle.lattice.proofs.LatticeLaws.{lattice_length}
 use Rattle.lattice.proofs.FillLaws.{SameLengths, fill_lengths, lefts_length}

@@ -1,7 +1,5 @@
 use Prim.Native.Nat.{ℕ, ◌+◌}
 use mathlib.Core.Path.{◌≡◌, ap, ◌∙◌, sym, subst}
-use mathlib.Core.List.{List}
-use borrow.Author.Rules.{rules}
 use native.Mathlib.Omega.{arith}
 use lib.ListN.{get_or}
 use Rattle.ground.specs.Entry.{none_link}
@@ -27,13 +25,13 @@ link c =
 
 pub returns-in-ToStart : goal.returns-in-ToStart
 returns-in-ToStart c =
-     let l = c.loop-k in
+    let l = c.loop-k in
     counting_done ((c.args.start.now)) ((c.args.end.now)) ((c.args.left.now)) c.args.n l.position l.entry l.count l.invariant
     (sym (link (goal.at.returns-in-ToStart c).After-link_at) ∙ c.in-ToStart.is)
 
 pub returns-in-Broken : goal.returns-in-Broken
 returns-in-Broken c =
-     let l = c.loop-k in
+    let l = c.loop-k in
     counting_broken ((c.args.start.now)) ((c.args.end.now)) ((c.args.left.now)) c.args.n l.position l.entry l.count l.invariant
     (sym (link (goal.at.returns-in-Broken c).After-link_at) ∙ c.in-Broken.is)
 
@@ -49,7 +47,7 @@ found : (c : goal.In-ToCandidate)
     → Right ((c.args.start.now)) ((c.args.end.now)) c.loop-k.position
     (get_or ((c.args.left.now)) c.loop-k.entry none_link) c.in-ToCandidate.k
 found c =
-     let l = c.loop-k in
+    let l = c.loop-k in
     right ((c.args.start.now)) ((c.args.end.now)) l.position (get_or ((c.args.left.now)) l.entry none_link) c.in-ToCandidate.k (leads c)
 
 pub offset_bounds-start-k : goal.offset_bounds-start-k
@@ -69,7 +67,7 @@ loop-k-smaller c = omega (arith, found (goal.at.loop-k-smaller c).In-ToCandidate
 
 pub loop-k-preserved : goal.loop-k-preserved
 loop-k-preserved c =
-      let l = c.loop-k in
+    let l = c.loop-k in
     let n = c.args.n in
     subst (λ (position : ℕ). Counting ((c.args.start.now)) ((c.args.end.now)) ((c.args.left.now)) n position (c.in-ToCandidate.k + 1) (l.count + 1)) (sym c.wide-position.ensures)
     (counting_more ((c.args.start.now)) ((c.args.end.now)) ((c.args.left.now)) n l.position l.entry l.count l.invariant c.in-ToCandidate.k (leads (goal.at.loop-k-preserved c).In-ToCandidate))

@@ -3,7 +3,6 @@ use Prim.Native.Nat.{ℕ, ◌+◌}
 use mathlib.Core.Path.{◌≡◌, ap, ◌∙◌, sym}
 use mathlib.Core.List.{List}
 use mathlib.Core.Option.{Option, none, some, or_else}
-use borrow.Author.Rules.{rules}
 use borrow.Author.Tests.{lt-ltb, le-ltb, eq-eqb, ne_eqb}
 use native.Mathlib.Omega.{arith}
 use lib.ListN.{length}
@@ -88,23 +87,23 @@ found : (c : goal.In-Whole)
     → Found c.args.start.now c.args.end.now c.args.left.now
     c.args.n c.in-Whole.count
 found c =
-     let a = c.args in
+    let a = c.args in
     found_by a.start.now a.end.now a.left.now a.n c.in-Whole.count (omega arith) (sym c.count.ensures ∙ c.in-Whole.is)
 
 pub write-requires : goal.write-requires
 write-requires c =
-     ((found (goal.at.write-requires c).In-Whole).sure, omega (arith, (found (goal.at.write-requires c).In-Whole).few))
+    ((found (goal.at.write-requires c).In-Whole).sure, omega (arith, (found (goal.at.write-requires c).In-Whole).few))
 
 pub overflow_cast-result : goal.overflow_cast-result
 overflow_cast-result c = omega (arith, (found (goal.at.overflow_cast-result c).In-Whole).few)
 
 pub returns-in-Broken : goal.returns-in-Broken
 returns-in-Broken c =
-     passed (goal.at.returns-in-Broken c).After-count none (broken_found (walked (goal.at.returns-in-Broken c).After-count) (sym c.count.ensures ∙ c.in-Broken.is))
+    passed (goal.at.returns-in-Broken c).After-count none (broken_found (walked (goal.at.returns-in-Broken c).After-count) (sym c.count.ensures ∙ c.in-Broken.is))
 
 pub returns-in-Whole : goal.returns-in-Whole
 returns-in-Whole c =
-       let a = c.args in
+    let a = c.args in
     let f = found (goal.at.returns-in-Whole c).In-Whole in
     ap (λ (row : List ℕ). outcome (Done c.in-Whole.count (pos 0)) row) (c.write.ensures ∙ ap (λ (new : List ℕ). over new a.word.now) (found (goal.at.returns-in-Whole c).In-Whole).again)
     ∙ ap (λ (count : ℕ). outcome (Done count (pos 0)) (over f.words a.word.now)) (sym f.many)

@@ -1,18 +1,17 @@
 use Prim.Native.Nat.{ℕ, ◌-◌, ◌≤◌, ◌<◌}
 use mathlib.Core.Path.{◌∙◌, ap, sym, subst}
 use mathlib.Core.List.{List, [], ◌∷◌, map-id}
-use borrow.Author.Rules.{rules}
 use native.Mathlib.Omega.{arith}
 use lib.ListN.{length, get_or, set}
 use Rattle.ground.specs.Rows.{over}
-use Rattle.walk.proofs.Passes.{Linking, Placed, sure_link, linking_none, linking_more, linking_all, placed_none, placed_more, placed_all}
+use Rattle.walk.proofs.Passes.{sure_link, linking_none, linking_more, linking_all, placed_none, placed_more, placed_all}
 use Rattle.walk.proofs.walk_back.write.Invariants.{Writing}
 use Rattle.walk.proofs.walk_back.write.Goals as goal
 use Rattle.walk.proofs.walk_back.write.Goals.{In-loop-i}
 
 pub loop-i-init : goal.loop-i-init
 loop-i-init c =
-     let a = c.args in
+    let a = c.args in
     ([], linking_none a.left.now a.mark a.count c.requires.0, placed_none (λ (k : ℕ). k) a.count a.word.now c.requires.1)
 
 -- the link that is to be followed
@@ -39,7 +38,7 @@ overflow_cast-word c = omega (arith, c.wide-link.ensures, c.shared_slice_known-i
 pub loop-i-preserved : goal.loop-i-preserved
 loop-i-preserved c =
     let l = c.loop-i in
-     let a = c.args in
+    let a = c.args in
     let t = c.loop-i-test.true in
     let link = get_or a.left.now l.entry 0 in
     subst
@@ -56,7 +55,7 @@ shape_of-word c = c.loop-i.invariant.2.kept
 pub returns : goal.returns
 returns c =
     let l = c.loop-i in
-     let a = c.args in
+    let a = c.args in
     let (found, h, p) = l.invariant in
     placed_all (λ (k : ℕ). k) a.count a.word.now c.requires.1 found l.word l.i (omega arith) h.long p
     ∙ ap (λ (new : List ℕ). over new a.word.now)

@@ -1,12 +1,7 @@
 -- The loop's invariant is `Linking`, and that the candidates found so far are `Placed` in the row. Assumes nothing.
-use Prim.Native.Nat.{ℕ, ◌-◌, ◌≤◌, ◌<◌}
-use mathlib.Core.Path.{◌∙◌, ap, sym, subst}
-use mathlib.Core.List.{List, [], ◌∷◌, map-id}
-use borrow.Author.Rules.{rules}
-use native.Mathlib.Omega.{arith}
-use lib.ListN.{length, get_or, set}
-use Rattle.ground.specs.Rows.{over}
-use Rattle.walk.proofs.Passes.{Linking, Placed, sure_link, linking_none, linking_more, linking_all, placed_none, placed_more, placed_all}
+use Prim.Native.Nat.{ℕ}
+use mathlib.Core.List.{List}
+use Rattle.walk.proofs.Passes.{Linking, Placed}
 use Rattle.walk.proofs.walk_back.write.Given as goal
 
 -- the number of a candidate is all that is told of it

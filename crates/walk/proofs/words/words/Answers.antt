@@ -4,7 +4,6 @@ use mathlib.Core.Path.{◌≡◌, refl, ap, ap₂, ◌∙◌, sym}
 use mathlib.Core.Bool.{true, false, not}
 use mathlib.Core.List.{List}
 use mathlib.Core.Option.{Option, none, some}
-use borrow.Author.Rules.{rules}
 use borrow.Author.Tests.{eq-eqb, ne_eqb}
 use native.Mathlib.Omega.{arith}
 use lib.ListN.{length, get_or}
@@ -45,12 +44,12 @@ found : (c : goal.In-Whole)
     → Found c.args.start.now c.args.end.now c.args.left.now
     c.args.n c.in-Whole.count
 found c =
-     let a = c.args in
+    let a = c.args in
     found_by a.start.now a.end.now a.left.now a.n c.in-Whole.count c.requires.room.0 (sym c.count.ensures ∙ c.in-Whole.is)
 
 pub write-requires : goal.write-requires
 write-requires c =
-     record {
+    record {
       listed = (c.requires.listed.0, (found (goal.at.write-requires c).In-Whole).sure);
       room = (omega (arith, (found (goal.at.write-requires c).In-Whole).few), omega (arith, (found (goal.at.write-requires c).In-Whole).few), omega (arith, (found (goal.at.write-requires c).In-Whole).few), omega arith);
     }
@@ -60,7 +59,7 @@ overflow_cast-result c = omega (arith, (found (goal.at.overflow_cast-result c).I
 
 pub returns-in-Broken : goal.returns-in-Broken
 returns-in-Broken c =
-     let a = c.args in
+    let a = c.args in
     ended_by a.n a.start.now a.end.now a.kind.now a.entry.now a.offset.now a.left.now a.cost
     a.word_offset.now a.word_id.now a.word_kind.now BrokenLink
     a.word_offset.now a.word_id.now a.word_kind.now true none (reached (goal.at.returns-in-Broken c).After-count)
@@ -68,7 +67,7 @@ returns-in-Broken c =
 
 pub returns-in-Whole : goal.returns-in-Whole
 returns-in-Whole c =
-     let a = c.args in
+    let a = c.args in
     let f = found (goal.at.returns-in-Whole c).In-Whole in
     ended_by a.n a.start.now a.end.now a.kind.now a.entry.now a.offset.now a.left.now a.cost
     a.word_offset.now a.word_id.now a.word_kind.now (Done c.in-Whole.count (to_z w32 (of_z w32 a.cost)))

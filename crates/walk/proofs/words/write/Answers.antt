@@ -1,11 +1,10 @@
 use Prim.Native.Nat.{ℕ, ◌+◌, ◌-◌, ◌*◌, ◌≤◌}
 use mathlib.Core.Path.{◌≡◌, ◌∙◌, ap, sym, subst}
-use borrow.Author.Rules.{rules}
 use native.Mathlib.Omega.{arith}
 use lib.ListN.{length, get_or}
 use Rattle.ground.specs.Entry.{entry_bytes}
 use Rattle.ground.specs.declared.entry.Entry.{Entry}
-use Rattle.walk.proofs.WordLaws.{Writing, Roomy, Told, told, places, writing_none, writing_more, writing_all}
+use Rattle.walk.proofs.WordLaws.{Roomy, Told, told, places, writing_none, writing_more, writing_all}
 use Rattle.walk.proofs.words.write.Goals as goal
 use Rattle.walk.proofs.words.write.Goals.{After-wide, At-loop-i, In-loop-i, Start}
 
@@ -15,7 +14,7 @@ room s = record { offsets = s.requires.room.0; ids = s.requires.room.1; kinds = 
 
 pub loop-i-init : goal.loop-i-init
 loop-i-init c =
-     let a = c.args in
+    let a = c.args in
     writing_none a.start.now a.kind.now a.entry.now a.offset.now a.left.now a.count
     a.word_offset.now a.word_id.now a.word_kind.now c.requires.listed.0 (room (goal.at.loop-i-init c).Start) c.requires.listed.1
 
@@ -25,7 +24,7 @@ link : (c : goal.In-loop-i)
     c.args.offset.now c.args.left.now c.loop-i.at
 link c =
     let l = c.loop-i in
-     let a = c.args in
+    let a = c.args in
     told a.start.now a.kind.now a.entry.now a.offset.now a.left.now a.count
     a.word_offset.now a.word_id.now a.word_kind.now c.requires.listed.0 (room (goal.at.In-loop-i c).Start)
     l.word_offset l.word_id l.word_kind l.at l.i l.invariant c.loop-i-test.true
@@ -51,7 +50,7 @@ position : (c : goal.After-wide)
     ≡ get_or c.args.start.now
     (get_or c.args.left.now c.loop-i.at 0 - 1) 0
 position c =
-     c.wide.ensures ∙ ap (λ (x : ℕ). get_or c.args.start.now (x - 1) 0) c.wide-link.ensures
+    c.wide.ensures ∙ ap (λ (x : ℕ). get_or c.args.start.now (x - 1) 0) c.wide-link.ensures
 
 pub offset_bounds-offset-wide : goal.offset_bounds-offset-wide
 offset_bounds-offset-wide c = omega (arith, position (goal.at.offset_bounds-offset-wide c).After-wide, (link (goal.at.offset_bounds-offset-wide c).In-loop-i).position)
@@ -62,7 +61,7 @@ bounds-offset-wide c = omega (arith, position (goal.at.bounds-offset-wide c).Aft
 -- the places still to be written
 free : (l : goal.At-loop-i) → Roomy l.loop-i.i l.loop-i.word_offset l.loop-i.word_id l.loop-i.word_kind
 free l =
-     let a = l.args in
+    let a = l.args in
     places a.start.now a.kind.now a.entry.now a.offset.now a.left.now a.count
     a.word_offset.now a.word_id.now a.word_kind.now l.requires.listed.0 (room (goal.at.At-loop-i l).Start)
     l.loop-i.word_offset l.loop-i.word_id l.loop-i.word_kind l.loop-i.at l.loop-i.i l.loop-i.invariant
@@ -94,8 +93,8 @@ bounds-word_kind-i c = omega (arith, (free (goal.at.bounds-word_kind-i c).At-loo
 
 pub loop-i-preserved : goal.loop-i-preserved
 loop-i-preserved c =
-     let l = c.loop-i in
-     let a = c.args in
+    let l = c.loop-i in
+    let a = c.args in
     writing_more a.start.now a.kind.now a.entry.now a.offset.now a.left.now a.count
     a.word_offset.now a.word_id.now a.word_kind.now c.requires.listed.0 (room (goal.at.loop-i-preserved c).Start)
     l.word_offset l.word_id l.word_kind l.at l.i l.invariant

@@ -1,7 +1,6 @@
 -- In each arm the mode is the arm's case, at which the charge computes. Assumes nothing.
 use mathlib.Core.Path.{◌∙◌, subst}
 use native.Mathlib.Omega.{arith}
-use borrow.Author.Rules.{rules}
 use borrow.Author.Tests.{le-leb, lt-leb}
 use mir.Syntax.{w32}
 use Rattle.ground.specs.Charge.{charge, PricesFit}

@@ -1,6 +1,5 @@
 -- Each field is what its function ensures. Assumes nothing.
 use mathlib.Core.Path.{◌∙◌, ap}
-use borrow.Author.Rules.{rules}
 use mir.Syntax.{w16}
 use Rattle.ground.specs.Entry.{entry_of, signed16}
 use Rattle.ground.proofs.SignedLaws.{back}

@@ -1,6 +1,5 @@
 -- The entry of the candidate's part. Assumes nothing.
 use mathlib.Core.Path.{◌∙◌, ap}
-use borrow.Author.Rules.{rules}
 use Rattle.ground.specs.Entry.{entry_of, entry_at}
 use Rattle.ground.proofs.entry.Entry.read.Goals as goal
 

@@ -2,7 +2,6 @@
 use Prim.Native.Nat.{ℕ}
 use mathlib.Core.Path.{◌∙◌, ap}
 use mathlib.Core.List.{List}
-use borrow.Author.Rules.{rules}
 use Rattle.ground.specs.Entry.{entry_at, u16_at}
 use Rattle.ground.proofs.entry.Entry.right_id_of.Goals as goal
 
