@@ -1,4 +1,5 @@
-// The C library. Each function hands its rows on and returns the four numbers of the answer; include/jumelavorp.h declares it.
+// The operations as the C library offers them (jumelavorp_c exports them): each function hands its rows on and returns the four numbers
+// of the answer.
 #![tactic(auto)]
 
 ghost use Rattle.checks.specs.Job.{job, job_rows};
@@ -10,16 +11,14 @@ use segmenter::segment;
 use walk::walk_back;
 
 // The character table alone.
-#[unsafe(no_mangle)]
-pub extern "C" fn jumelavorp_characters(text: &[u8], offset: &mut [u32], run: &mut [u16]) -> Numbers
+pub fn jumelavorp_characters(text: &[u8], offset: &mut [u32], run: &mut [u16]) -> Numbers
     ensures { Characters text.now offset.old run.old result offset.new run.new }
 {
     text::characters(text, offset, run).numbers()
 }
 
 // The whole job.
-#[unsafe(no_mangle)]
-pub extern "C" fn jumelavorp_segment(
+pub fn jumelavorp_segment(
     text: &[u8],
     start: &[u16],
     end: &[u16],
@@ -88,8 +87,7 @@ pub extern "C" fn jumelavorp_segment(
 }
 
 // The walk back alone.
-#[unsafe(no_mangle)]
-pub extern "C" fn jumelavorp_walk_back(
+pub fn jumelavorp_walk_back(
     start: &[u16],
     end: &[u16],
     left: &[u16],
