@@ -1,5 +1,5 @@
 -- The head of a job in the list: thirteen numbers of four bytes each.
-use Rattle.std.specs.Prelude.{ℕ, ◌+◌, ◌*◌, ◌≤◌, List}
+use Rattle.std.specs.Prelude.{ℕ, ◌*◌, ◌≤◌, List}
 use Rattle.ground.specs.Entry.{u32_at}
 use Rattle.ground.specs.declared.answer.Numbers.{Numbers}
 use Rattle.replay.specs.declared.head.Head.{Head}

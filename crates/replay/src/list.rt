@@ -1,10 +1,11 @@
 // Reading the list, and saying what came of it.
-ghost use Rattle.std.specs.Prelude.{◌≡◌, ◌≤◌, length};
+ghost use Rattle.std.specs.Prelude.{◌≡◌, ◌≤◌, length, IfOk};
 ghost use Rattle.replay.specs.Head.{Within};
 
 use crate::head::Head;
 use crate::{head, job};
-use libc::{STDIN_FILENO, STDOUT_FILENO};
+use std::io;
+use std::io::{Print, Read};
 
 // What stands next in the list.
 #[derive(Clone, Copy)]
@@ -28,34 +29,51 @@ pub enum Outcome {
     Differs,
 }
 
-fn next_head() -> Next
-    ensures { (head : Head) → result ≡ Next.Job head → Within head }
+// Reads until the bytes are full or the list ends, and says how many came.
+fn read_full<R: Read>(list: &mut R, bytes: &mut [u8]) -> io::Result<usize>
+    ensures { IfOk result (λ n. n ≤ length bytes.new) }
+{
+    let mut done = 0;
+    while done < bytes.len() {
+        let n = list.read(&mut bytes[done..])?;
+        if n == 0 {
+            break;
+        }
+        done += n;
+    }
+    Ok(done)
+}
+
+fn next_head<R: Read>(list: &mut R) -> io::Result<Next>
+    ensures { IfOk result (λ next. (head : Head) → next ≡ Next.Job head → Within head) }
 {
     let mut bytes = [0u8; 52];
-    let got = io::read_full(STDIN_FILENO, &mut bytes);
+    let got = read_full(list, &mut bytes)?;
     if got == 0 {
-        return Next::End;
+        return Ok(Next::End);
     }
     if got < 52 {
-        return Next::Broken;
+        return Ok(Next::Broken);
     }
     let head = head::of(&bytes);
     if head::within(head) {
-        Next::Job(head)
+        Ok(Next::Job(head))
     } else {
-        Next::Broken
+        Ok(Next::Broken)
     }
 }
 
 // The next bytes of the list, and whether there were so many.
-fn fetch(bytes: &mut [u8], count: usize) -> bool
+fn fetch<R: Read>(list: &mut R, bytes: &mut [u8], count: usize) -> io::Result<bool>
     requires { count ≤ length bytes.old }
 {
-    io::read_full(STDIN_FILENO, &mut bytes[..count]) == count
+    let got = read_full(list, &mut bytes[..count])?;
+    Ok(got == count)
 }
 
 // One job: its head is read, and the bytes that it announces.
-pub fn replay_next(
+pub fn replay_next<R: Read>(
+    list: &mut R,
     given: &mut [u8; 11_264],
     recorded: &mut [u8; 6_554],
     start: &mut [u16; 512],
@@ -72,17 +90,17 @@ pub fn replay_next(
     word_offset: &mut [u32; 128],
     word_id: &mut [u32; 128],
     word_kind: &mut [u8; 128],
-) -> Outcome {
-    let head = match next_head() {
-        Next::End => return Outcome::End,
-        Next::Broken => return Outcome::Broken,
+) -> io::Result<Outcome> {
+    let head = match next_head(list)? {
+        Next::End => return Ok(Outcome::End),
+        Next::Broken => return Ok(Outcome::Broken),
         Next::Job(head) => head,
     };
-    if !fetch(given, head::given_bytes(head)) {
-        return Outcome::Broken;
+    if !fetch(list, given, head::given_bytes(head))? {
+        return Ok(Outcome::Broken);
     }
-    if !fetch(recorded, head::recorded_bytes(head)) {
-        return Outcome::Broken;
+    if !fetch(list, recorded, head::recorded_bytes(head))? {
+        return Ok(Outcome::Broken);
     }
     let same = job::replay(
         head,
@@ -104,27 +122,20 @@ pub fn replay_next(
         word_kind,
     );
     if same {
-        Outcome::Same
+        Ok(Outcome::Same)
     } else {
-        Outcome::Differs
+        Ok(Outcome::Differs)
     }
 }
 
-pub fn say_end(jobs: u64, differ: u64) {
-    io::print_decimal(STDOUT_FILENO, jobs);
-    io::write_all(STDOUT_FILENO, b" jobs replayed, ");
-    io::print_decimal(STDOUT_FILENO, differ);
-    io::write_all(STDOUT_FILENO, b" differ\n");
+pub fn say_end<R: Print>(rt: &R, jobs: u64, differ: u64) -> io::Result<()> {
+    println!(rt; "{jobs} jobs replayed, {differ} differ")
 }
 
-pub fn say_differs(job: u64) {
-    io::write_all(STDOUT_FILENO, b"job ");
-    io::print_decimal(STDOUT_FILENO, job);
-    io::write_all(STDOUT_FILENO, b" differs\n");
+pub fn say_differs<R: Print>(rt: &R, job: u64) -> io::Result<()> {
+    println!(rt; "job {job} differs")
 }
 
-pub fn say_broken(job: u64) {
-    io::write_all(STDOUT_FILENO, b"the list is broken at job ");
-    io::print_decimal(STDOUT_FILENO, job);
-    io::write_all(STDOUT_FILENO, b"\n");
+pub fn say_broken<R: Print>(rt: &R, job: u64) -> io::Result<()> {
+    println!(rt; "the list is broken at job {job}")
 }

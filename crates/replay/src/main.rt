@@ -1,6 +1,7 @@
 // Replays a recorded list of the Rust original's answers through the library and says which jobs it answers otherwise. The list
 // comes on standard input; src/head.rt says how a job lies in it.
 #![tactic(auto)]
+
 mod head;
 mod job;
 mod list;
@@ -9,12 +10,14 @@ mod rows;
 mod same;
 
 use list::Outcome;
+use std::io;
 
 // A proved loop has to end, and nothing says that a list does: no list has so many jobs.
 const JOB_LIMIT: u64 = 1_000_000_000;
 
 // Each job has the rows as the job before left them. Jobs are numbered from 0.
-fn main() {
+fn main(rt: HostRuntime) -> io::Result<()> {
+    let mut stdin = rt.stdin();
     let mut given = [0u8; 11_264];
     let mut recorded = [0u8; 6_554];
     let mut start = [0u16; 512];
@@ -34,6 +37,7 @@ fn main() {
     let mut differ: u64 = 0;
     for job in 0..JOB_LIMIT {
         let outcome = list::replay_next(
+            &mut stdin,
             &mut given,
             &mut recorded,
             &mut start,
@@ -50,22 +54,20 @@ fn main() {
             &mut word_offset,
             &mut word_id,
             &mut word_kind,
-        );
+        )?;
         match outcome {
             Outcome::End => {
-                list::say_end(job, differ);
-                return;
+                return list::say_end(&rt, job, differ);
             }
             Outcome::Broken => {
-                list::say_broken(job);
-                return;
+                return list::say_broken(&rt, job);
             }
             Outcome::Same => {}
             Outcome::Differs => {
-                list::say_differs(job);
+                list::say_differs(&rt, job)?;
                 differ += 1;
             }
         }
     }
-    list::say_broken(JOB_LIMIT);
+    list::say_broken(&rt, JOB_LIMIT)
 }
