@@ -21,18 +21,21 @@ RUST_BENCH := @echo 'bench: cannot be run, the library is x86-64 code and this m
 RUST_SOAK := @echo 'soak: cannot be run, the library is x86-64 code and this machine is $(MACHINE)' && false
 endif
 
-# Each line stops the run where it fails. rt ci comes last: it proves every crate from nothing,
-# tries the must-fail edits, and its last line is 'N passed, 0 failed'.
-test: lib
-	rt fmt --check
+# Each line stops the run where it fails. rt ci comes first, on the checkout as it is: it proves every crate, tries the must-fail
+# edits, and runs the replay program. Its last line, 'N passed, 0 failed', is said again at the end.
+test:
+	tools/gate
+	$(MAKE) lib
 	for name in $(C_PROGRAMS); do harness/c/run harness/c/$$name.c; done
 	demo/check
 	$(RUST_TESTS)
-	rt ci
+	@tail -n 1 target/ci
 
-# Only a proved crate is built.
+# Only a proved crate is built. C callers know the archive as libjumelavorp.a.
 lib:
-	rt staticlib jumelavorp
+	cd crates/jumelavorp_c && rt lib
+	mkdir -p target/staticlib
+	cp crates/jumelavorp_c/out/libjumelavorp_c.a target/staticlib/libjumelavorp.a
 
 demo: lib
 	@harness/c/run demo/demo.c
