@@ -5,19 +5,20 @@
 --   cond t x y      x if t is true, otherwise y
 --   leb, ltb, eqb   ≤, < and = as tests; `&&`, `||`, `not` join them
 --   [], x ∷ xs      the empty list; x in front of xs. `length` counts, `++` joins two lists; take n, drop n: the first n, and all but them; slice a b:
---                   those from number a up to and without b; dropLast: all but the last; reverse: from the last to the first
+--                   those from number a up to and without b; drop_last: all but the last; reverse: from the last to the first
 --   none, some x    nothing, or x. `or_else o p` is o, or p where o is none
---   getD xs i d     the element of xs at i, counted from 0, or d where there is none
---   record { .. }   a struct's value. declared.x.T is the type T of src/x.rt; «a_b» is a name with an underscore
+--   get_or xs i d   the element of xs at i, counted from 0, or d where there is none
+--   record { .. }   a struct's value. declared.x.T is the type T of src/x.rt
 --   x ≡ y, P × Q    x is y; P and Q. `P ⊎ Q`: P or Q; `Unit` holds, and `⊥` does not. `(k : ℕ) → P`: P for every k; `(j : ℕ) × P`: P for
 --                   some j; `P → Q`: if P then Q; `P → ⊥`: not P; `P ↔ Q`: exactly if. A `record R x where` whose lines are such statements
 --                   says that all of them hold; a `data D x where` holds by one of its lines, and by nothing else
 --   λ x. e          the function that gives e for x; `map f xs`: f of each element; `flat_map f xs`: the lists f of each, joined; `let x = e in b`:
 --                   b, where x is e
---   +ℤ, ≤ℤ, ltZ     sum and order of whole numbers, and < as a test; negℤ z is −z; sum _+ℤ_ (pos 0) xs adds up a list
+--   +ℤ, ≤ℤ, lt_z    sum and order of whole numbers, and < as a test; neg_ℤ z is −z; sum ◌+ℤ◌ (pos 0) xs adds up a list
 --   /, %            quotient and remainder
--- In the contracts of src/, `ensures { λ r. ⌜ P ⌝ }` says that every call ends and returns an r for which P holds; `requires`, where there is
--- one, what is asked of a caller. `now row` is a row's content, `.entry` before the call and `.exit` after it.
+-- In the contracts of src/, `ensures { P }` says that every call ends and that P then holds of what it returned, `result`; `requires`, where
+-- there is one, what is asked of a caller. `row.now` is the content of a row that is read, `row.old` and `row.new` are those of a written row
+-- before and after the call. A function with several clauses has a name for each.
 pub mod Limits
 pub mod Rows
 pub mod Answer

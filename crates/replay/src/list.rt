@@ -1,5 +1,5 @@
 // Reading the list, and saying what came of it.
-ghost use Rattle.std.specs.Prelude.{◌≡◌, ◌≤◌, length, IfOk};
+ghost use Rattle.std.specs.Prelude.{◌≡◌, ◌≤◌, length};
 ghost use Rattle.replay.specs.Head.{Within};
 
 use crate::head::Head;
@@ -29,46 +29,44 @@ pub enum Outcome {
     Differs,
 }
 
-// Reads until the bytes are full or the list ends, and says how many came.
-fn read_full<R: Read>(list: &mut R, bytes: &mut [u8]) -> io::Result<usize>
-    ensures { IfOk result (λ n. n ≤ length bytes.new) }
+// Reads until the bytes are full, the list ends or a read fails, and says how many came.
+fn read_full<R: Read>(list: &mut R, bytes: &mut [u8]) -> usize
+    ensures { result ≤ length bytes.new }
 {
     let mut done = 0;
     while done < bytes.len() {
-        let n = list.read(&mut bytes[done..])?;
-        if n == 0 {
-            break;
+        match list.read(&mut bytes[done..]) {
+            Ok(0) | Err(_) => break,
+            Ok(n) => done += n,
         }
-        done += n;
     }
-    Ok(done)
+    done
 }
 
-fn next_head<R: Read>(list: &mut R) -> io::Result<Next>
-    ensures { IfOk result (λ next. (head : Head) → next ≡ Next.Job head → Within head) }
+fn next_head<R: Read>(list: &mut R) -> Next
+    ensures { (head : Head) → result ≡ Next.Job head → Within head }
 {
     let mut bytes = [0u8; 52];
-    let got = read_full(list, &mut bytes)?;
+    let got = read_full(list, &mut bytes);
     if got == 0 {
-        return Ok(Next::End);
+        return Next::End;
     }
     if got < 52 {
-        return Ok(Next::Broken);
+        return Next::Broken;
     }
     let head = head::of(&bytes);
     if head::within(head) {
-        Ok(Next::Job(head))
+        Next::Job(head)
     } else {
-        Ok(Next::Broken)
+        Next::Broken
     }
 }
 
 // The next bytes of the list, and whether there were so many.
-fn fetch<R: Read>(list: &mut R, bytes: &mut [u8], count: usize) -> io::Result<bool>
+fn fetch<R: Read>(list: &mut R, bytes: &mut [u8], count: usize) -> bool
     requires { count ≤ length bytes.old }
 {
-    let got = read_full(list, &mut bytes[..count])?;
-    Ok(got == count)
+    read_full(list, &mut bytes[..count]) == count
 }
 
 // One job: its head is read, and the bytes that it announces.
@@ -90,17 +88,17 @@ pub fn replay_next<R: Read>(
     word_offset: &mut [u32; 128],
     word_id: &mut [u32; 128],
     word_kind: &mut [u8; 128],
-) -> io::Result<Outcome> {
-    let head = match next_head(list)? {
-        Next::End => return Ok(Outcome::End),
-        Next::Broken => return Ok(Outcome::Broken),
+) -> Outcome {
+    let head = match next_head(list) {
+        Next::End => return Outcome::End,
+        Next::Broken => return Outcome::Broken,
         Next::Job(head) => head,
     };
-    if !fetch(list, given, head::given_bytes(head))? {
-        return Ok(Outcome::Broken);
+    if !fetch(list, given, head::given_bytes(head)) {
+        return Outcome::Broken;
     }
-    if !fetch(list, recorded, head::recorded_bytes(head))? {
-        return Ok(Outcome::Broken);
+    if !fetch(list, recorded, head::recorded_bytes(head)) {
+        return Outcome::Broken;
     }
     let same = job::replay(
         head,
@@ -122,9 +120,9 @@ pub fn replay_next<R: Read>(
         word_kind,
     );
     if same {
-        Ok(Outcome::Same)
+        Outcome::Same
     } else {
-        Ok(Outcome::Differs)
+        Outcome::Differs
     }
 }
 

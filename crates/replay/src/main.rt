@@ -54,14 +54,10 @@ fn main(rt: HostRuntime) -> io::Result<()> {
             &mut word_offset,
             &mut word_id,
             &mut word_kind,
-        )?;
+        );
         match outcome {
-            Outcome::End => {
-                return list::say_end(&rt, job, differ);
-            }
-            Outcome::Broken => {
-                return list::say_broken(&rt, job);
-            }
+            Outcome::End => return list::say_end(&rt, job, differ),
+            Outcome::Broken => return list::say_broken(&rt, job),
             Outcome::Same => {}
             Outcome::Differs => {
                 list::say_differs(&rt, job)?;
