@@ -12,7 +12,7 @@ use mir.Val.{hbits, to_z, of_z}
 use mir.Facts.{to_z-of_z}
 use Rattle.ground.specs.Entry.{signed16}
 
--- A number that the width holds is read back from its bits as it is (`c.CALLEE.ok` is such a bound).
+-- A number that the width holds is read back from its bits as it is.
 pub back : (w : Width) (z : ℤ) → mag z < 2 ^ hbits w → to_z w (of_z w z) ≡ z
 back w z h = to_z-of_z (record { sfits = h })
 
