@@ -5,7 +5,7 @@ use mathlib.Core.Path.{◌≡◌, refl, sym, ap, ◌∙◌}
 use mathlib.Core.Logic.{◌↔◌, inl, inr}
 use mathlib.Core.Bool.{Bool, true, false, true≢false}
 use mathlib.Core.List.{List, [], ◌∷◌, reverse, reverse_aux, reverse-cons, reverse-reverse}
-use mathlib.Core.Option.{some}
+use Rattle.std.specs.Prelude.{Some}
 use native.Mathlib.Omega.{arith}
 use lib.ListN.{length, get_or, length-append, length-reverse}
 use lib.IntN.{ℤ, pos}
@@ -74,12 +74,12 @@ module _ (n : ℕ) (g : Given) (ok : Accepted n g) where
 
   -- the walk back goes along a trail
   trail_walk : (left : List ℕ) (most : ℕ) {w : Word} {i : ℕ} {js : List ℕ} (found : List ℕ) → length js < most → Trail left i js → Before g w js
-      → walk_from g.start g.end left most w.start i found ≡ some (reverse_aux js found)
+      → walk_from g.start g.end left most w.start i found ≡ Some (reverse_aux js found)
   trail_walk left zero found l t d = absurd (omega arith)
   trail_walk left (suc most) {w} {i} found l (home e) (first s) =
-      step g.start g.end left most w.start i found ToStart (rw (e, eq-eqb w.start 0 s))
+      step g.start g.end left most w.start i found (Some ToStart) (rw (e, eq-eqb w.start 0 s))
   trail_walk left (suc most) {w} {i} found l (on {k = k} e t) (after h f d) =
-      step g.start g.end left most w.start i found (ToCandidate k)
+      step g.start g.end left most w.start i found (Some (ToCandidate k))
       (sym (by_tests g.start g.end w.start (get_or left i none_link) k true true true e
       (lt-ltb k (count g) h)
       (lt-ltb (get_or g.start k 0) (get_or g.end k 0) (ok.forward k h))
@@ -175,7 +175,7 @@ module _ (n : ℕ) (g : Given) (ok : Accepted n g) where
 
     -- Where it is reached, the walk back finds the path that is taken, at the stored cost, in at most n words.
     pub record Walked (ks : List ℕ) : Type 0 where
-      pub walk : walk_back g.start g.end left n ≡ some ks
+      pub walk : walk_back g.start g.end left n ≡ Some ks
       pub stored : (entry (suc (count g))).cost ≡ path_cost g ks
       pub best : Best (Path n g) (path_cost g) ks
       pub few : length ks ≤ n
@@ -216,7 +216,7 @@ module _ (n : ℕ) (g : Given) (ok : Accepted n g) where
       over_at (costs (lattice n g)) old i (pos 0) (omega (arith, costs_length (lattice n g))) ∙ costs_at (lattice n g) i l
 
   -- from a reached end mark every link is right
-  pub whole_walk : (entry (suc (count g))).reached ≡ true → (words : List ℕ) × (walk_back g.start g.end (lefts (lattice n g)) n ≡ some words)
+  pub whole_walk : (entry (suc (count g))).reached ≡ true → (words : List ℕ) × (walk_back g.start g.end (lefts (lattice n g)) n ≡ Some words)
   whole_walk r =
       let reached = (reached_left (lefts (lattice n g)) left_at (suc (count g)) (omega arith) (omega arith)).1 r in
       let (words, w) = path_walked (lefts (lattice n g)) left_at reached in

@@ -3,34 +3,27 @@ use Prim.Native.Nat.{ℕ, zero, suc, ◌+◌, ◌-◌, ◌*◌, ◌≤◌, ◌<�
 use mathlib.Core.Path.{◌≡◌, refl, ap, ◌∙◌, sym, subst}
 use mathlib.Core.Bool.{Bool, true, false, not, ◌||◌, true≢false}
 use mathlib.Core.List.{List, [], ◌∷◌}
-use mathlib.Core.Option.{Option, none, some, or_else, some-ne-none}
+use Rattle.std.specs.Prelude.{Option, None, Some, Ok, Err}
+use Rattle.std.specs.Option.{option_or}
 use native.Mathlib.Omega.{arith}
-use native.Mathlib.Numerals.{add-one, sub-one}
+use native.Mathlib.Numerals.{add-one}
 use lib.ListN.{length, get_or}
 use lib.Dec.{ltb, leb, eqb}
 use borrow.Author.Tests.{ltb-true, ltb-false, leb-false, eqb-true, eqb-false, not-false}
 use Rattle.ground.specs.Limits.{text_limit, character_limit, candidate_limit, size_limit, price_limit, threshold_limit, kind_limit}
 use Rattle.ground.specs.Entry.{entry_bytes, entry_at}
-use Rattle.ground.specs.Answer.{refuse, numbers_of}
+use Rattle.ground.specs.Answer.{refuse, unless, numbers_of}
 use Rattle.ground.specs.Charge.{PricesFit}
 use Rattle.ground.specs.Text.{letters, sizes, well_formed}
-use Rattle.ground.specs.Characters.{text_refused, checked_by, checked, Sound}
-use Rattle.ground.specs.declared.answer.Answer.{Answer}
-use Rattle.ground.specs.declared.answer.Answer.TheVariants.{NotUtf8, TooLong, Uneven, TooMany, BadMatrix, BadMode, ShortRow}
-use Rattle.ground.specs.declared.answer.Answer.TheVariants.{BadKind, OutOfOrder, BadSpan, BadId}
-use Rattle.ground.specs.declared.charge.Mode.{Mode}
-use Rattle.ground.specs.declared.text.Checked.{Checked}
+use Rattle.ground.specs.Characters.{checked, Sound}
+use Rattle.ground.specs.declared.answer.Refusal.{Refusal}
+use Rattle.ground.specs.declared.answer.Refusal.TheVariants.{NotUtf8, TooLong, Uneven, TooMany, BadMatrix, BadMode, ShortRow}
+use Rattle.ground.specs.declared.answer.Refusal.TheVariants.{BadKind, OutOfOrder, BadSpan, BadId}
 use Rattle.ground.proofs.TextLaws.{sizes_within}
 use Rattle.ground.proofs.CharacterLaws.{passed as text-passed}
 use Rattle.checks.specs.Job.{Job, JobRows, character_count, candidate_count}
 use Rattle.checks.specs.Checks.{uneven, bad_size, bad_matrix, bad_mode, mode_of, too_many, too_short, short_row, bad_kind, below_previous, bad_span, bad_id}
 use Rattle.checks.specs.Checks.{input_refused, first_refused, candidates_refused, refused}
-use Rattle.checks.specs.Inner.{verdict_of, named_by, inputs_by}
-use Rattle.checks.specs.declared.checks.Verdict.{Verdict}
-use Rattle.checks.specs.declared.checks.Verdict.TheVariants.{Fine, Refused}
-use Rattle.checks.specs.declared.checks.Named.{Named}
-use Rattle.checks.specs.declared.checks.Named.TheVariants.{Known, Other}
-use Rattle.checks.specs.declared.checks.Inputs.TheVariants as Inputs
 
 -- ---- tests that are joined
 
@@ -52,11 +45,6 @@ none_of t [] e (suc i) = refl
 none_of t (u ∷ us) e zero = (neither t u (none_of (t || u) us e 0)).0
 none_of t (u ∷ us) e (suc zero) = (neither t u (none_of (t || u) us e 0)).1
 none_of t (u ∷ us) e (suc (suc i)) = none_of (t || u) us e (suc i)
-
--- A test that cannot fail holds.
-pub holds : (t : Bool) → (t ≡ false → ⊥) → true ≡ t
-holds true h = refl
-holds false h = absurd (h refl)
 
 -- ---- what a test that does not hold tells
 
@@ -164,26 +152,27 @@ placed height width entry k e =
 
 -- ---- refusals in their order
 
+-- A refusal is not none.
+no_some : (why : Refusal) → Some why ≡ None → ⊥
+no_some why e = let z : ◌≡◌ {A = ℕ} 0 1 = cc in omega arith
+
 -- Of two refusals that are none, each is.
-nor : (o p : Option Answer) → or_else o p ≡ none → (o ≡ none) × (p ≡ none)
-unfolding or_else
-nor none p e = (refl, e)
-nor (some answer) p e = absurd (some-ne-none answer e)
+nor : (o p : Option Refusal) → option_or o p ≡ None → (o ≡ None) × (p ≡ None)
+nor None p e = (refl, e)
+nor (Some why) p e = absurd (no_some why e)
 
 -- Where the first is none, the second decides.
-pub or_none : (o p : Option Answer) → o ≡ none → or_else o p ≡ p
-unfolding or_else
+pub or_none : (o p : Option Refusal) → o ≡ None → option_or o p ≡ p
 or_none o p e = rw e
 
--- Where the first is an answer, it decides.
-pub or_some : (o p : Option Answer) (answer : Answer) → o ≡ some answer → or_else o p ≡ some answer
-unfolding or_else
-or_some o p answer e = rw e
+-- Where the first is a refusal, it decides.
+pub or_some : (o p : Option Refusal) (why : Refusal) → o ≡ Some why → option_or o p ≡ Some why
+or_some o p why e = rw e
 
 -- A test that refuses nothing does not hold.
-unrefused : (t : Bool) (answer : Answer) → refuse t answer ≡ none → t ≡ false
-unrefused true answer e = absurd (some-ne-none answer e)
-unrefused false answer e = refl
+unrefused : (t : Bool) (why : Refusal) → refuse t why ≡ None → t ≡ false
+unrefused true why e = absurd (no_some why e)
+unrefused false why e = refl
 
 -- ---- the inputs
 
@@ -203,7 +192,7 @@ pub record InputsPassed (j : Job) : Type 0 where
   pub priced : PricesFit (mode_of j.mode j.kanji_threshold j.kanji_price j.other_threshold j.other_price)  -- 6
 
 -- Inputs that are not refused passed them.
-pub inputs_passed : (j : Job) → input_refused j ≡ none → InputsPassed j
+pub inputs_passed : (j : Job) → input_refused j ≡ None → InputsPassed j
 unfolding checked
 inputs_passed j e =
     let a = nor _ _ e in
@@ -215,7 +204,7 @@ inputs_passed j e =
     let high = sized j.height matrix.0 in
     let wide = sized j.width matrix.1 in
     record {
-      sound = text-passed j.text (character_count j) (ap (λ (o : Option Answer). checked_by o (character_count j)) a.0);
+      sound = text-passed j.text (character_count j) (ap (λ (o : Option Refusal). unless o (character_count j)) a.0);
       ends = rows.0;
       kinds = rows.1;
       extras = rows.2;
@@ -255,33 +244,28 @@ rows_passed n c r e =
 -- ---- the candidates
 
 -- Where there is no first refusal, no candidate of those is refused.
-pub first_none : (f : ℕ → Option Answer) (from many : ℕ) → first_refused f from many ≡ none → (k : ℕ) → from ≤ k → k < from + many → f k ≡ none
+pub first_none : (f : ℕ → Option Refusal) (from many : ℕ) → first_refused f from many ≡ None → (k : ℕ) → from ≤ k → k < from + many → f k ≡ None
 unfolding first_refused
 first_none f from zero e k low high = absurd (omega arith)
 first_none f from (suc many) e k low high =
     let no = nor (f from) (first_refused f (suc from) many) e in
     go (eqb from k) refl no.0 (λ h. first_none f (suc from) many no.1 k h (omega arith))
   where
-    go : (t : Bool) → eqb from k ≡ t → f from ≡ none → (from < k → f k ≡ none) → f k ≡ none
+    go : (t : Bool) → eqb from k ≡ t → f from ≡ None → (from < k → f k ≡ None) → f k ≡ None
     go true q here later = ap f (sym (eqb-true from k q)) ∙ here
     go false q here later = let other = eqb-false from k q in later (omega arith)
 
 -- Where none of those is refused, there is none.
-pub none_first : (f : ℕ → Option Answer) (from many : ℕ) → ((k : ℕ) → from ≤ k → k < from + many → f k ≡ none) → first_refused f from many ≡ none
+pub none_first : (f : ℕ → Option Refusal) (from many : ℕ) → ((k : ℕ) → from ≤ k → k < from + many → f k ≡ None) → first_refused f from many ≡ None
 unfolding first_refused
 none_first f from zero each = refl
 none_first f from (suc many) each =
     or_none _ _ (each from (omega arith) (omega arith)) ∙ none_first f (suc from) many (λ k low high. each k (omega arith) (omega arith))
 
 -- The first refusal from k on is candidate k's, or else the first from the next on.
-pub first_step : (f : ℕ → Option Answer) (k c : ℕ) → k < c → first_refused f k (c - k) ≡ or_else (f k) (first_refused f (k + 1) (c - (k + 1)))
+pub first_step : (f : ℕ → Option Refusal) (k c : ℕ) → k < c → first_refused f k (c - k) ≡ option_or (f k) (first_refused f (k + 1) (c - (k + 1)))
 unfolding first_refused
 first_step f k c h = let e : c - k ≡ suc (c - (k + 1)) = omega arith in rw (e, add-one)
-
--- The candidate before number k has number k − 1.
-pub previous : (start : List ℕ) (k : ℕ) → (k ≡ 0 → ⊥) → ltb (get_or start k 0) (get_or start (k - 1) 0) ≡ below_previous start k
-previous start zero h = absurd (h refl)
-previous start (suc k) h = rw sub-one
 
 -- Starts of which none is below the one before it are in order.
 in_order : (start : List ℕ) (c : ℕ) → ((k : ℕ) → k < c → below_previous start k ≡ false) → (i k : ℕ) → i ≤ k → k < c → get_or start i 0 ≤ get_or start k 0
@@ -303,7 +287,7 @@ pub record CandidatesPassed (j : Job) : Type 0 where
 
 -- Candidates that are not refused passed them.
 pub candidates_passed : (j : Job)
-    → candidates_refused (character_count j) j.start j.end j.kind j.entry j.height j.width ≡ none → CandidatesPassed j
+    → candidates_refused (character_count j) j.start j.end j.kind j.entry j.height j.width ≡ None → CandidatesPassed j
 candidates_passed j e =
     record {
       kinds = λ k h. ltb-false _ _ (one k h).0;
@@ -328,17 +312,17 @@ candidates_passed j e =
 -- ---- the stages
 
 -- A refusal of the inputs decides.
-pub by_inputs : (j : Job) (r : JobRows) (answer : Answer) → input_refused j ≡ some answer → refused j r ≡ some answer
+pub by_inputs : (j : Job) (r : JobRows) (why : Refusal) → input_refused j ≡ Some why → refused j r ≡ Some why
 unfolding refused
-by_inputs j r answer e = or_some _ _ answer e
+by_inputs j r why e = or_some _ _ why e
 
 -- Then the rows do.
-pub by_rows : (j : Job) (r : JobRows) → input_refused j ≡ none → short_row (character_count j) (candidate_count j) r ≡ true → refused j r ≡ some ShortRow
+pub by_rows : (j : Job) (r : JobRows) → input_refused j ≡ None → short_row (character_count j) (candidate_count j) r ≡ true → refused j r ≡ Some ShortRow
 unfolding refused
 by_rows j r e s = or_none _ _ e ∙ or_some _ _ ShortRow (ap (λ (t : Bool). refuse t ShortRow) s)
 
 -- Then the candidates.
-pub by_candidates : (j : Job) (r : JobRows) → input_refused j ≡ none → short_row (character_count j) (candidate_count j) r ≡ false
+pub by_candidates : (j : Job) (r : JobRows) → input_refused j ≡ None → short_row (character_count j) (candidate_count j) r ≡ false
     → refused j r ≡ candidates_refused (character_count j) j.start j.end j.kind j.entry j.height j.width
 unfolding refused
 by_candidates j r e s = or_none _ _ e ∙ or_none _ _ (ap (λ (t : Bool). refuse t ShortRow) s)
@@ -350,7 +334,7 @@ pub record Passed (j : Job) (r : JobRows) : Type 0 where
   pub candidates : CandidatesPassed j
 
 -- A job that is not refused passed them.
-pub passed : (j : Job) (r : JobRows) → refused j r ≡ none → Passed j r
+pub passed : (j : Job) (r : JobRows) → refused j r ≡ None → Passed j r
 unfolding refused
 passed j r e =
     let a = nor _ _ e in
@@ -363,96 +347,57 @@ passed j r e =
 
 -- ---- what the functions tell, taken back to the tests
 
--- The refusal that a verdict tells.
-abbrev pub refusal : Verdict → Option Answer
-refusal Fine = none
-refusal (Refused answer) = some answer
+-- Something that is told: no test refuses, and it is the one.
+pub told_ok : {A : Type 0} (o : Option Refusal) (x y : A) → Ok x ≡ unless o y → (o ≡ None) × (y ≡ x)
+told_ok None x y e = (refl, cc)
+told_ok (Some why) x y e = absurd (let z : ◌≡◌ {A = ℕ} 0 1 = cc in omega arith)
 
--- It is the one that the verdict is of.
-pub verdict_told : (o : Option Answer) (told : Verdict) → told ≡ verdict_of o → o ≡ refusal told
-verdict_told none told e = sym (ap refusal e)
-verdict_told (some answer) told e = sym (ap refusal e)
-
--- The refusal that the tests of a text tell.
-abbrev pub text_refusal : Checked → Option Answer
-text_refusal (Checked.Passed n) = none
-text_refusal (Checked.Refused answer) = some answer
-
--- It is the text's.
-pub text_told : (text : List ℕ) (told : Checked) → told ≡ checked text → text_refused text ≡ text_refusal told
-unfolding checked
-text_told text told e = go (text_refused text) e
-  where
-    go : (o : Option Answer) → told ≡ checked_by o (length (letters text)) → o ≡ text_refusal told
-    go none e = sym (ap text_refusal e)
-    go (some answer) e = sym (ap text_refusal e)
-
--- Whether no mode is told.
-abbrev pub nameless : Named → Bool
-nameless Other = true
-nameless (Known mode) = false
-
--- The mode that is told, if one is.
-abbrev pub mode_in : Named → Mode → Mode
-mode_in Other mode = mode
-mode_in (Known found) mode = found
-
--- They are the test of the mode, and the mode.
-pub mode_told : (t : Bool) (mode : Mode) (told : Named) → told ≡ named_by t mode → (t ≡ nameless told) × (mode_in told mode ≡ mode)
-mode_told true mode told e = (sym (ap nameless e), ap (λ (n : Named). mode_in n mode) e)
-mode_told false mode told e = (sym (ap nameless e), ap (λ (n : Named). mode_in n mode) e)
-
--- Inputs that passed: no test of them holds, and the number of characters and the mode are as told.
-pub inputs_told : (o : Option Answer) (n m : ℕ) (mode found : Mode) → Inputs.Passed m found ≡ inputs_by o n mode → (o ≡ none) × (n ≡ m) × (mode ≡ found)
-inputs_told none n m mode found e = (refl, cc, cc)
-inputs_told (some answer) n m mode found e = absurd (let z : ◌≡◌ {A = ℕ} 0 1 = cc in omega arith)
-
--- Inputs that failed: the answer is the one that is told.
-pub failure_told : (o : Option Answer) (n : ℕ) (mode : Mode) (answer : Answer) → Inputs.Failed answer ≡ inputs_by o n mode → o ≡ some answer
-failure_told none n mode answer e = absurd (let z : ◌≡◌ {A = ℕ} 0 1 = cc in omega arith)
-failure_told (some other) n mode answer e = let same : other ≡ answer = cc in ap some same
+-- A refusal that is told: it is the tests'.
+pub told_err : {A : Type 0} (o : Option Refusal) (why : Refusal) (y : A) → Err why ≡ unless o y → o ≡ Some why
+told_err None why y e = absurd (let z : ◌≡◌ {A = ℕ} 0 1 = cc in omega arith)
+told_err (Some other) why y e = let same : other ≡ why = cc in ap Some same
 
 -- ---- the answers
 
 -- What is told of an answer that the tests give, with a text of so many bytes and c candidates: its number, and what its place can be.
-pub record Tested (bytes c : ℕ) (answer : Answer) : Type 0 where
-  pub low : 1 ≤ (numbers_of answer).number
-  pub high : (numbers_of answer).number ≤ 11
-  pub within : (numbers_of answer).number ≡ 1 → (numbers_of answer).place ≤ bytes
-  pub listed : 8 ≤ (numbers_of answer).number → (numbers_of answer).place < c
+pub record Tested (bytes c : ℕ) (why : Refusal) : Type 0 where
+  pub low : 1 ≤ (numbers_of (Err why)).number
+  pub high : (numbers_of (Err why)).number ≤ 11
+  pub within : (numbers_of (Err why)).number ≡ 1 → (numbers_of (Err why)).place ≤ bytes
+  pub listed : 8 ≤ (numbers_of (Err why)).number → (numbers_of (Err why)).place < c
 
 module _ (bytes c : ℕ) where
-  -- None, or such an answer.
-  unfoldable Early : Option Answer → Type 0
-  Early none = Unit {0}
-  Early (some answer) = Tested bytes c answer
+  -- None, or such a refusal.
+  unfoldable Early : Option Refusal → Type 0
+  Early None = Unit {0}
+  Early (Some why) = Tested bytes c why
 
   -- The answers 2 to 7 are such.
-  plain : (answer : Answer) → 2 ≤ (numbers_of answer).number → (numbers_of answer).number ≤ 7 → Tested bytes c answer
-  plain answer low high = record { low = omega arith; high = omega arith; within = λ e. absurd (omega arith); listed = λ h. absurd (omega arith) }
+  plain : (why : Refusal) → 2 ≤ (numbers_of (Err why)).number → (numbers_of (Err why)).number ≤ 7 → Tested bytes c why
+  plain why low high = record { low = omega arith; high = omega arith; within = λ e. absurd (omega arith); listed = λ h. absurd (omega arith) }
 
   -- So are 8 to 11, of a candidate that is listed.
-  placed_at : (answer : Answer) (k : ℕ) → k < c → 8 ≤ (numbers_of answer).number → (numbers_of answer).number ≤ 11 → (numbers_of answer).place ≡ k → Tested bytes c answer
-  placed_at answer k h low high e = record { low = omega arith; high = high; within = λ q. absurd (omega arith); listed = λ q. omega arith }
+  placed_at : (why : Refusal) (k : ℕ) → k < c → 8 ≤ (numbers_of (Err why)).number → (numbers_of (Err why)).number ≤ 11 → (numbers_of (Err why)).place ≡ k → Tested bytes c why
+  placed_at why k h low high e = record { low = omega arith; high = high; within = λ q. absurd (omega arith); listed = λ q. omega arith }
 
-  -- Of two such, the first that is an answer is such.
-  early_or : (o p : Option Answer) → Early o → Early p → Early (or_else o p)
-  unfolding or_else Early
-  early_or none p a b = b
-  early_or (some answer) p a b = a
+  -- Of two such, the first that is a refusal is such.
+  early_or : (o p : Option Refusal) → Early o → Early p → Early (option_or o p)
+  unfolding Early
+  early_or None p a b = b
+  early_or (Some why) p a b = a
 
   -- So is a test's.
-  early : (t : Bool) (answer : Answer) → Tested bytes c answer → Early (refuse t answer)
+  early : (t : Bool) (why : Refusal) → Tested bytes c why → Early (refuse t why)
   unfolding Early
-  early true answer h = h
-  early false answer h = tt
+  early true why h = h
+  early false why h = tt
 
   -- So is the first of a test's and what comes behind it.
-  early_test : (t : Bool) (answer : Answer) (rest : Option Answer) → Tested bytes c answer → Early rest → Early (or_else (refuse t answer) rest)
-  early_test t answer rest h = early_or (refuse t answer) rest (early t answer h)
+  early_test : (t : Bool) (why : Refusal) (rest : Option Refusal) → Tested bytes c why → Early rest → Early (option_or (refuse t why) rest)
+  early_test t why rest h = early_or (refuse t why) rest (early t why h)
 
   -- So is the first of many.
-  early_first : (f : ℕ → Option Answer) (from many : ℕ) → ((k : ℕ) → k < from + many → Early (f k)) → Early (first_refused f from many)
+  early_first : (f : ℕ → Option Refusal) (from many : ℕ) → ((k : ℕ) → k < from + many → Early (f k)) → Early (first_refused f from many)
   unfolding first_refused Early
   early_first f from zero h = tt
   early_first f from (suc many) h =
@@ -486,6 +431,6 @@ all_early j r =
     (early b c (bad_id j.height j.width j.entry k) (BadId k) (placed_at b c (BadId k) k l (omega arith) (omega arith) refl)))))))
 
 -- So every refusal of the tests is such.
-pub tested : (j : Job) (r : JobRows) (answer : Answer) → refused j r ≡ some answer → Tested (length j.text) (candidate_count j) answer
+pub tested : (j : Job) (r : JobRows) (why : Refusal) → refused j r ≡ Some why → Tested (length j.text) (candidate_count j) why
 unfolding Early
-tested j r answer e = subst (Early (length j.text) (candidate_count j)) e (all_early j r)
+tested j r why e = subst (Early (length j.text) (candidate_count j)) e (all_early j r)

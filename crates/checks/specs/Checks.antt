@@ -1,12 +1,13 @@
 -- Document 01, "Answer numbers, in order of test": the tests of a job, one after the other as the table has them.
 use Rattle.std.specs.Prelude.{ℕ, zero, suc, ◌+◌, ◌*◌, Bool, true, false, not, ◌||◌, List, length, get_or, ltb, leb, eqb}
-use Rattle.std.proofs.Math.Option.{Option, none, or_else}
+use Rattle.std.specs.Prelude.{Option, None}
+use Rattle.std.specs.Option.{option_or}
 use Rattle.ground.specs.Limits.{candidate_limit, size_limit, price_limit, threshold_limit, kind_limit}
 use Rattle.ground.specs.Entry.{entry_bytes, entry_at}
 use Rattle.ground.specs.Answer.{refuse}
 use Rattle.ground.specs.Characters.{text_refused}
-use Rattle.ground.specs.declared.answer.Answer.{Answer}
-use Rattle.ground.specs.declared.answer.Answer.TheVariants.{Uneven, TooMany, BadMatrix, BadMode, ShortRow, BadKind, OutOfOrder, BadSpan, BadId}
+use Rattle.ground.specs.declared.answer.Refusal.{Refusal}
+use Rattle.ground.specs.declared.answer.Refusal.TheVariants.{Uneven, TooMany, BadMatrix, BadMode, ShortRow, BadKind, OutOfOrder, BadSpan, BadId}
 use Rattle.ground.specs.declared.charge.Mode.{Mode}
 use Rattle.ground.specs.declared.charge.Mode.TheVariants.{Normal, Decompose}
 use Rattle.checks.specs.Job.{Job, JobRows, character_count, candidate_count}
@@ -99,37 +100,36 @@ bad_id height width entry k =
 -- ---- in their order
 
 -- 2, 1, 2, 3, 4, 5, 6: the tests that look at no row to be written and at no single candidate.
-abbrev pub input_refused : Job → Option Answer
+abbrev pub input_refused : Job → Option Refusal
 input_refused j =
-    or_else (text_refused j.text)
-    (or_else (refuse (uneven (candidate_count j) (length j.end) (length j.kind) (length j.extra) (length j.entry)) Uneven)
-    (or_else (refuse (too_many (candidate_count j)) TooMany)
-    (or_else (refuse (bad_matrix j.height j.width (length j.matrix)) BadMatrix)
+    option_or (text_refused j.text)
+    (option_or (refuse (uneven (candidate_count j) (length j.end) (length j.kind) (length j.extra) (length j.entry)) Uneven)
+    (option_or (refuse (too_many (candidate_count j)) TooMany)
+    (option_or (refuse (bad_matrix j.height j.width (length j.matrix)) BadMatrix)
     (refuse (bad_mode j.mode j.kanji_threshold j.kanji_price j.other_threshold j.other_price) BadMode))))
 
 -- 8, 9, 10, 11 of candidate k, whose number is the place.
-abbrev pub candidate_refused : ℕ → List ℕ → List ℕ → List ℕ → List ℕ → ℕ → ℕ → ℕ → Option Answer
+abbrev pub candidate_refused : ℕ → List ℕ → List ℕ → List ℕ → List ℕ → ℕ → ℕ → ℕ → Option Refusal
 candidate_refused n start end kind entry height width k =
-    or_else (refuse (bad_kind (get_or kind k 0)) (BadKind k))
-    (or_else (refuse (below_previous start k) (OutOfOrder k))
-    (or_else (refuse (bad_span n (get_or start k 0) (get_or end k 0)) (BadSpan k))
+    option_or (refuse (bad_kind (get_or kind k 0)) (BadKind k))
+    (option_or (refuse (below_previous start k) (OutOfOrder k))
+    (option_or (refuse (bad_span n (get_or start k 0) (get_or end k 0)) (BadSpan k))
     (refuse (bad_id height width entry k) (BadId k))))
 
 -- The first refusal of `many` candidates from number k on, by a test of one.
-unfoldable pub first_refused : (ℕ → Option Answer) → ℕ → ℕ → Option Answer
-unfolding or_else
-first_refused test k zero = none
-first_refused test k (suc many) = or_else (test k) (first_refused test (suc k) many)
+unfoldable pub first_refused : (ℕ → Option Refusal) → ℕ → ℕ → Option Refusal
+first_refused test k zero = None
+first_refused test k (suc many) = option_or (test k) (first_refused test (suc k) many)
 
 -- 8 to 11 are tested candidate by candidate from number 0.
-abbrev pub candidates_refused : ℕ → List ℕ → List ℕ → List ℕ → List ℕ → ℕ → ℕ → Option Answer
+abbrev pub candidates_refused : ℕ → List ℕ → List ℕ → List ℕ → List ℕ → ℕ → ℕ → Option Refusal
 candidates_refused n start end kind entry height width =
     first_refused (candidate_refused n start end kind entry height width) 0 (length start)
 
 -- All tests of a job: the first that holds decides.
-unfoldable pub refused : Job → JobRows → Option Answer
-unfolding first_refused or_else
+unfoldable pub refused : Job → JobRows → Option Refusal
+unfolding first_refused
 refused j r =
-    or_else (input_refused j)
-    (or_else (refuse (short_row (character_count j) (candidate_count j) r) ShortRow)
+    option_or (input_refused j)
+    (option_or (refuse (short_row (character_count j) (candidate_count j) r) ShortRow)
     (candidates_refused (character_count j) j.start j.end j.kind j.entry j.height j.width))

@@ -1,58 +1,45 @@
--- Inner, no part of document 01: how the functions of the tests return what they tell, and what the sweep over the candidates finds.
-use Rattle.std.specs.Prelude.{ℕ, ◌≤◌, ◌<◌, Bool, true, false, cond, List, get_or, leb}
-use Rattle.std.proofs.Math.Option.{Option, none, some}
-use Rattle.ground.specs.Entry.{entry_at}
-use Rattle.ground.specs.declared.answer.Answer.{Answer}
+-- Inner, no part of document 01: the tests by the structs that the functions are lent, and what they tell.
+use Rattle.std.specs.Prelude.{ℕ, Bool, ◌≡◌, ◌*◌, length, Option}
+use Rattle.ground.specs.Entry.{entry_bytes}
+use Rattle.ground.specs.Answer.{refuse}
+use Rattle.ground.specs.declared.answer.Refusal.{Refusal}
+use Rattle.ground.specs.declared.answer.Refusal.TheVariants.{BadMode}
+use Rattle.ground.specs.declared.candidates.Candidates.{Candidates}
 use Rattle.ground.specs.declared.charge.Mode.{Mode}
-use Rattle.checks.specs.Checks.{below_previous}
-use Rattle.checks.specs.declared.checks.Verdict.{Verdict}
-use Rattle.checks.specs.declared.checks.Verdict.TheVariants.{Fine, Refused}
-use Rattle.checks.specs.declared.checks.Named.{Named}
-use Rattle.checks.specs.declared.checks.Named.TheVariants.{Known, Other}
-use Rattle.checks.specs.declared.checks.Inputs.{Inputs}
-use Rattle.checks.specs.declared.checks.Inputs.TheVariants.{Passed, Failed}
+use Rattle.ground.specs.declared.charge.ModeNumbers.{ModeNumbers}
+use Rattle.ground.specs.declared.matrix.Matrix.{Matrix}
+use Rattle.checks.specs.Job.{Job, character_count}
+use Rattle.checks.specs.Checks.{bad_mode, mode_of, too_short, candidate_refused, candidates_refused}
+use Rattle.checks.specs.declared.checks.Passed.{Passed}
+use Rattle.checks.specs.declared.checks.RowLengths.{RowLengths}
 
--- ---- what is told
+-- 6, and the mode, of the numbers that are lent.
+abbrev pub mode_refused : ModeNumbers → Option Refusal
+mode_refused m = refuse (bad_mode m.mode m.kanji_threshold m.kanji_price m.other_threshold m.other_price) BadMode
 
--- The answer of the test that holds, or that none does.
-abbrev pub verdict_of : Option Answer → Verdict
-verdict_of none = Fine
-verdict_of (some answer) = Refused answer
+abbrev pub mode_named : ModeNumbers → Mode
+mode_named m = mode_of m.mode m.kanji_threshold m.kanji_price m.other_threshold m.other_price
 
--- A mode, or that the test of it holds.
-abbrev pub named_by : Bool → Mode → Named
-named_by true mode = Other
-named_by false mode = Known mode
+-- What inputs that pass are told to be.
+abbrev pub passed_inputs : Job → Passed
+passed_inputs j =
+    record { n = character_count j; mode = mode_of j.mode j.kanji_threshold j.kanji_price j.other_threshold j.other_price }
 
--- The answer of the test that holds, or the number of characters and the mode.
-abbrev pub inputs_by : Option Answer → ℕ → Mode → Inputs
-inputs_by none n mode = Passed n mode
-inputs_by (some answer) n mode = Failed answer
+-- 7, by the ten lengths.
+abbrev pub row_too_short : ℕ → ℕ → RowLengths → Bool
+row_too_short n c l =
+    too_short n c l.offset l.run l.first l.last l.left l.cost l.next l.word_offset l.word_id l.word_kind
 
--- ---- the sweep: a number for each candidate, and one that none of the first c is above
+-- ---- the candidates that are lent
 
-abbrev pub NoneAbove : (ℕ → ℕ) → ℕ → ℕ → Type 0
-NoneAbove number c most = (k : ℕ) → k < c → number k ≤ most
+-- As many ends and kinds as starts, and ten entry bytes for each.
+abbrev pub EvenRows : Candidates → Type 0
+EvenRows c =
+    (length c.end.now ≡ length c.start.now) × (length c.kind.now ≡ length c.start.now) × (length c.entry.now ≡ entry_bytes * length c.start.now)
 
--- Candidate k's number in a row.
-abbrev pub in_row : List ℕ → ℕ → ℕ
-in_row row k = get_or row k 0
+-- 8 to 11 of candidate k, and of all.
+abbrev pub candidate_refusal : ℕ → Candidates → Matrix → ℕ → Option Refusal
+candidate_refusal n c m k = candidate_refused n c.start.now c.end.now c.kind.now c.entry.now m.height m.width k
 
--- A test as a number: 1 if it holds.
-abbrev pub flag_of : Bool → ℕ
-flag_of test = cond test 1 0
-
--- 1 if candidate k's start is below the previous candidate's.
-abbrev pub out_of_order : List ℕ → ℕ → ℕ
-out_of_order start k = flag_of (below_previous start k)
-
--- 1 if candidate k's end is not above its start.
-abbrev pub not_above : List ℕ → List ℕ → ℕ → ℕ
-not_above start end k = flag_of (leb (get_or end k 0) (get_or start k 0))
-
--- Candidate k's ids.
-abbrev pub left_id_of : List ℕ → ℕ → ℕ
-left_id_of entry k = (entry_at entry k).left_id
-
-abbrev pub right_id_of : List ℕ → ℕ → ℕ
-right_id_of entry k = (entry_at entry k).right_id
+abbrev pub first_refusal : ℕ → Candidates → Matrix → Option Refusal
+first_refusal n c m = candidates_refused n c.start.now c.end.now c.kind.now c.entry.now m.height m.width

@@ -1,6 +1,7 @@
 -- Document 01, "What comes in, what goes out": a job, and the rows that it writes.
 use Rattle.std.specs.Prelude.{ℕ, List, length, ℤ}
 use Rattle.ground.specs.Text.{letters}
+use Rattle.checks.specs.declared.job.Job.{Job as Lent}
 
 -- A job: a text, candidates in rows, a connection matrix, and a mode with its four numbers. (How wide each number is, `jumelavorp_segment` in
 -- jumelavorp's src/lib.rt says.)
@@ -39,6 +40,14 @@ job text start end kind extra entry height width matrix mode kanji_threshold kan
       other_threshold = other_threshold;
       other_price = other_price;
     }
+
+-- The job that the functions are lent.
+abbrev pub told : Lent → Job
+told j =
+    job j.text.now
+    j.candidates.start.now j.candidates.end.now j.candidates.kind.now j.candidates.extra.now j.candidates.entry.now
+    j.matrix.height j.matrix.width j.matrix.values.now
+    j.mode.mode j.mode.kanji_threshold j.mode.kanji_price j.mode.other_threshold j.mode.other_price
 
 -- n, the number of characters.
 abbrev pub character_count : Job → ℕ

@@ -1,237 +1,145 @@
 // The tests in document 01's order: each is a function of its own, and the first that holds decides.
-ghost use Rattle.std.specs.Prelude.{◌≡◌, true, ◌+◌, ◌*◌, ◌≤◌, ◌<◌, length};
-ghost use Rattle.std.proofs.Math.Option.{none};
+ghost use Rattle.std.specs.Prelude.{◌≡◌, ℕ, true, ◌+◌, ◌*◌, ◌≤◌, ◌<◌, length, None};
 ghost use Rattle.ground.specs.Limits.{character_limit, candidate_limit};
 ghost use Rattle.ground.specs.Entry.{entry_bytes};
-ghost use Rattle.ground.specs.Text.{letters};
-ghost use Rattle.checks.specs.Job.{job};
-ghost use Rattle.checks.specs.Checks.{bad_size, bad_matrix, bad_mode, mode_of, input_refused};
-ghost use Rattle.checks.specs.Checks.{too_short, bad_kind, below_previous, bad_span, bad_id, candidate_refused, candidates_refused};
-ghost use Rattle.checks.specs.Inner.{verdict_of, named_by, inputs_by};
-ghost use Rattle.checks.specs.Inner.{NoneAbove, in_row, flag_of, not_above, out_of_order, left_id_of, right_id_of};
+ghost use Rattle.ground.specs.Answer.{unless};
+ghost use Rattle.checks.specs.Job.{told};
+ghost use Rattle.checks.specs.Checks.{bad_size, bad_matrix, bad_mode, input_refused};
+ghost use Rattle.checks.specs.Checks.{bad_kind, below_previous, bad_span, bad_id};
+ghost use Rattle.checks.specs.Inner.{mode_refused, mode_named, passed_inputs, row_too_short, EvenRows, candidate_refusal, first_refusal};
 
-use ground::answer::Answer;
-use ground::charge::{Mode, PRICE_LIMIT, Penalty, THRESHOLD_LIMIT};
+use crate::job::Job;
+use ground::answer::Refusal;
+use ground::candidates::Candidates;
+use ground::charge::{Mode, ModeNumbers, PRICE_LIMIT, Penalty, THRESHOLD_LIMIT};
 use ground::entry::{CANDIDATE_LIMIT, Entry, Kind};
-use ground::matrix::SIZE_LIMIT;
+use ground::matrix::{Matrix, SIZE_LIMIT};
 use ground::text;
-use ground::text::Checked;
 
-// What tests tell: none holds, or the answer of the first that does.
+// What the tests of the inputs leave: the number of characters, and the mode.
 #[derive(Clone, Copy)]
-pub enum Verdict {
-    Fine,
-    Refused(Answer),
+pub struct Passed {
+    pub n: usize,
+    pub mode: Mode,
 }
 
-// The mode that numbers name.
+// The lengths of the ten rows that a job writes.
 #[derive(Clone, Copy)]
-pub enum Named {
-    Known(Mode),
-    Other,
+pub struct RowLengths {
+    pub offset: usize,
+    pub run: usize,
+    pub first: usize,
+    pub last: usize,
+    pub left: usize,
+    pub cost: usize,
+    pub next: usize,
+    pub word_offset: usize,
+    pub word_id: usize,
+    pub word_kind: usize,
 }
 
-// What the tests of the inputs tell.
-#[derive(Clone, Copy)]
-pub enum Inputs {
-    Passed { n: usize, mode: Mode },
-    Failed(Answer),
-}
-
-// Test 3, by the lengths of the rows.
-fn uneven(c: usize, ends: usize, kinds: usize, extras: usize, bytes: usize) -> bool
-    ensures { result ≡ Rattle.checks.specs.Checks.uneven c ends kinds extras bytes }
+// Test 3.
+fn uneven(candidates: &Candidates) -> bool
+    ensures { result
+        ≡ Rattle.checks.specs.Checks.uneven (length candidates.now.start.now) (length candidates.now.end.now)
+        (length candidates.now.kind.now) (length candidates.now.extra.now) (length candidates.now.entry.now) }
 {
-    if ends != c {
-        return true;
-    }
-    if kinds != c {
-        return true;
-    }
-    if extras != c {
-        return true;
-    }
-    if bytes % Entry::BYTES != 0 {
-        return true;
-    }
-    bytes / Entry::BYTES != c
+    let c = candidates.start.len();
+    let bytes = candidates.entry.len();
+    candidates.end.len() != c
+        || candidates.kind.len() != c
+        || candidates.extra.len() != c
+        || bytes % Entry::BYTES != 0
+        || bytes / Entry::BYTES != c
 }
 
 // A height or a width that no matrix has.
 fn bad_size(size: u32) -> bool
     ensures { result ≡ bad_size size }
 {
-    if size == 0 {
-        return true;
-    }
-    SIZE_LIMIT < size
+    size == 0 || SIZE_LIMIT < size
 }
 
 // Test 5.
-fn bad_matrix(height: u32, width: u32, values: usize) -> bool
-    ensures { result ≡ bad_matrix height width values }
+fn bad_matrix(matrix: &Matrix) -> bool
+    ensures { result ≡ bad_matrix matrix.now.height matrix.now.width (length matrix.now.values.now) }
 {
-    if bad_size(height) {
-        return true;
-    }
-    if bad_size(width) {
-        return true;
-    }
-    values != (height as usize) * (width as usize)
+    bad_size(matrix.height)
+        || bad_size(matrix.width)
+        || matrix.values.len() != (matrix.height as usize) * (matrix.width as usize)
+}
+
+// Test 6, by the numbers of Decompose.
+fn over_limit(numbers: &ModeNumbers) -> bool
+    ensures { result
+        ≡ bad_mode 1 numbers.now.kanji_threshold numbers.now.kanji_price numbers.now.other_threshold numbers.now.other_price }
+{
+    THRESHOLD_LIMIT < numbers.kanji_threshold
+        || PRICE_LIMIT < numbers.kanji_price
+        || THRESHOLD_LIMIT < numbers.other_threshold
+        || PRICE_LIMIT < numbers.other_price
 }
 
 // Test 6, and the mode.
-fn mode_named(
-    mode: u32,
-    kanji_threshold: u32,
-    kanji_price: u32,
-    other_threshold: u32,
-    other_price: u32,
-) -> Named
-    ensures { result
-        ≡ named_by
-        (bad_mode mode kanji_threshold kanji_price other_threshold other_price)
-        (mode_of mode kanji_threshold kanji_price other_threshold other_price) }
+fn mode_of(numbers: &ModeNumbers) -> Result<Mode, Refusal>
+    ensures { result ≡ unless (mode_refused numbers.now) (mode_named numbers.now) }
 {
-    if mode == 0 {
-        return Named::Known(Mode::Normal);
+    if numbers.mode == 0 {
+        return Ok(Mode::Normal);
     }
-    if mode != 1 {
-        return Named::Other;
+    if numbers.mode != 1 || over_limit(numbers) {
+        return Err(Refusal::BadMode);
     }
-    if THRESHOLD_LIMIT < kanji_threshold {
-        return Named::Other;
-    }
-    if PRICE_LIMIT < kanji_price {
-        return Named::Other;
-    }
-    if THRESHOLD_LIMIT < other_threshold {
-        return Named::Other;
-    }
-    if PRICE_LIMIT < other_price {
-        return Named::Other;
-    }
-    Named::Known(Mode::Decompose(Penalty {
-        kanji_threshold: kanji_threshold as u16,
-        kanji_price: kanji_price as u16,
-        other_threshold: other_threshold as u16,
-        other_price: other_price as u16,
+    Ok(Mode::Decompose(Penalty {
+        kanji_threshold: numbers.kanji_threshold as u16,
+        kanji_price: numbers.kanji_price as u16,
+        other_threshold: numbers.other_threshold as u16,
+        other_price: numbers.other_price as u16,
     }))
 }
 
 // The tests that look at no row to be written and at no single candidate.
-pub fn check_inputs(
-    text: &[u8],
-    start: &[u16],
-    end: &[u16],
-    kind: &[u8],
-    extra: &[i16],
-    entry: &[u8],
-    height: u32,
-    width: u32,
-    matrix: &[i16],
-    mode: u32,
-    kanji_threshold: u32,
-    kanji_price: u32,
-    other_threshold: u32,
-    other_price: u32,
-) -> Inputs
-    ensures { result
-        ≡ inputs_by
-        (input_refused
-        (job
-        text.now start.now end.now kind.now extra.now entry.now
-        height width matrix.now
-        mode kanji_threshold kanji_price other_threshold other_price))
-        (length (letters text.now))
-        (mode_of mode kanji_threshold kanji_price other_threshold other_price) }
+pub fn check_inputs(job: &Job) -> Result<Passed, Refusal>
+    ensures { result ≡ unless (input_refused (told job.now)) (passed_inputs (told job.now)) }
 {
-    match text::check(text) {
-        Checked::Refused(answer) => Inputs::Failed(answer),
-        Checked::Passed { n } => {
-            if uneven(start.len(), end.len(), kind.len(), extra.len(), entry.len()) {
-                return Inputs::Failed(Answer::Uneven);
-            }
-            if CANDIDATE_LIMIT < start.len() {
-                return Inputs::Failed(Answer::TooMany);
-            }
-            if bad_matrix(height, width, matrix.len()) {
-                return Inputs::Failed(Answer::BadMatrix);
-            }
-            match mode_named(
-                mode,
-                kanji_threshold,
-                kanji_price,
-                other_threshold,
-                other_price,
-            ) {
-                Named::Other => Inputs::Failed(Answer::BadMode),
-                Named::Known(mode) => Inputs::Passed { n, mode },
-            }
-        }
+    let n = text::check(job.text)?;
+    if uneven(&job.candidates) {
+        return Err(Refusal::Uneven);
     }
+    if CANDIDATE_LIMIT < job.candidates.start.len() {
+        return Err(Refusal::TooMany);
+    }
+    if bad_matrix(&job.matrix) {
+        return Err(Refusal::BadMatrix);
+    }
+    let mode = mode_of(&job.mode)?;
+    Ok(Passed { n, mode })
 }
 
-// Test 7, by the lengths of the ten rows.
-pub fn short_row(
-    n: usize,
-    c: usize,
-    offset: usize,
-    run: usize,
-    first: usize,
-    last: usize,
-    left: usize,
-    cost: usize,
-    next: usize,
-    word_offset: usize,
-    word_id: usize,
-    word_kind: usize,
-) -> bool
+// Test 7.
+pub fn short_row(n: usize, c: usize, lengths: RowLengths) -> bool
     requires { (n ≤ character_limit) × (c ≤ candidate_limit) }
-    ensures { result ≡ too_short n c offset run first last left cost next word_offset word_id word_kind }
+    ensures { result ≡ row_too_short n c lengths }
 {
     let positions = n + 1;
     let entries = c + 2;
-    if offset < positions {
-        return true;
-    }
-    if run < positions {
-        return true;
-    }
-    if first < positions {
-        return true;
-    }
-    if last < positions {
-        return true;
-    }
-    if left < entries {
-        return true;
-    }
-    if cost < entries {
-        return true;
-    }
-    if next < entries {
-        return true;
-    }
-    if word_offset < n {
-        return true;
-    }
-    if word_id < n {
-        return true;
-    }
-    word_kind < n
+    lengths.offset < positions
+        || lengths.run < positions
+        || lengths.first < positions
+        || lengths.last < positions
+        || lengths.left < entries
+        || lengths.cost < entries
+        || lengths.next < entries
+        || lengths.word_offset < n
+        || lengths.word_id < n
+        || lengths.word_kind < n
 }
 
 // Test 8: no kind has this number.
 fn bad_kind(number: u8) -> bool
     ensures { result ≡ bad_kind number }
 {
-    match Kind::of(number) {
-        Kind::System => false,
-        Kind::User => false,
-        Kind::Unknown => false,
-        Kind::Unnamed => true,
-    }
+    Kind::try_from(number).is_err()
 }
 
 // Test 9.
@@ -239,237 +147,115 @@ fn below_previous(start: &[u16], k: usize) -> bool
     requires { k < length start.now }
     ensures { result ≡ below_previous start.now k }
 {
-    if k == 0 {
-        return false;
-    }
-    start[k] < start[k - 1]
+    k != 0 && start[k] < start[k - 1]
 }
 
 // Test 10.
 fn bad_span(n: usize, start: u16, end: u16) -> bool
     ensures { result ≡ bad_span n start end }
 {
-    if end <= start {
-        return true;
-    }
-    n < end as usize
+    end <= start || n < usize::from(end)
 }
 
 // Test 11.
-fn bad_id(height: u32, width: u32, entry: &[u8], k: usize) -> bool
+fn bad_id(matrix: &Matrix, entry: &[u8], k: usize) -> bool
     requires { k * entry_bytes + entry_bytes ≤ length entry.now }
-    ensures { result ≡ bad_id height width entry.now k }
+    ensures { result ≡ bad_id matrix.now.height matrix.now.width entry.now k }
 {
     let word = Entry::read(entry, k);
-    if height <= word.left_id as u32 {
-        return true;
-    }
-    width <= word.right_id as u32
+    matrix.height <= u32::from(word.left_id) || matrix.width <= u32::from(word.right_id)
 }
 
-// The tests of candidate k.
+// The tests of candidate k. (Even rows are asked for here and below, and are no type: rows that come in may be uneven, which test 3 tells.)
 fn check_candidate(
     n: usize,
-    start: &[u16],
-    end: &[u16],
-    kind: &[u8],
-    entry: &[u8],
-    height: u32,
-    width: u32,
+    candidates: &Candidates,
+    matrix: &Matrix,
     k: usize,
-) -> Verdict
-    requires { (k < length start.now) × (k < length end.now) × (k < length kind.now)
-        × (k * entry_bytes + entry_bytes ≤ length entry.now) × (k ≤ candidate_limit) }
-    ensures { result ≡ verdict_of (candidate_refused n start.now end.now kind.now entry.now height width k) }
+) -> Result<(), Refusal>
+    requires { EvenRows candidates.now × (k < length candidates.now.start.now) × (length candidates.now.start.now ≤ candidate_limit) }
+    ensures { result ≡ unless (candidate_refusal n candidates.now matrix.now k) tt }
 {
     let place = k as u32;
-    if bad_kind(kind[k]) {
-        return Verdict::Refused(Answer::BadKind { place });
+    if bad_kind(candidates.kind[k]) {
+        return Err(Refusal::BadKind { place });
     }
-    if below_previous(start, k) {
-        return Verdict::Refused(Answer::OutOfOrder { place });
+    if below_previous(candidates.start, k) {
+        return Err(Refusal::OutOfOrder { place });
     }
-    if bad_span(n, start[k], end[k]) {
-        return Verdict::Refused(Answer::BadSpan { place });
+    if bad_span(n, candidates.start[k], candidates.end[k]) {
+        return Err(Refusal::BadSpan { place });
     }
-    if bad_id(height, width, entry, k) {
-        return Verdict::Refused(Answer::BadId { place });
+    if bad_id(matrix, candidates.entry, k) {
+        return Err(Refusal::BadId { place });
     }
-    Verdict::Fine
+    Ok(())
 }
 
 // The first refusal, candidate by candidate from number 0.
-fn first_refused(
-    n: usize,
-    start: &[u16],
-    end: &[u16],
-    kind: &[u8],
-    entry: &[u8],
-    height: u32,
-    width: u32,
-) -> Verdict
-    requires { (length end.now ≡ length start.now) × (length kind.now ≡ length start.now)
-        × (length entry.now ≡ entry_bytes * length start.now) × (length start.now ≤ candidate_limit) }
-    ensures { result ≡ verdict_of (candidates_refused n start.now end.now kind.now entry.now height width) }
+fn first_refused(n: usize, candidates: &Candidates, matrix: &Matrix) -> Result<(), Refusal>
+    requires { EvenRows candidates.now × (length candidates.now.start.now ≤ candidate_limit) }
+    ensures { result ≡ unless (first_refusal n candidates.now matrix.now) tt }
 {
-    let mut k = 0;
-    while k < start.len() {
-        match check_candidate(n, start, end, kind, entry, height, width, k) {
-            Verdict::Refused(answer) => return Verdict::Refused(answer),
-            Verdict::Fine => {}
-        }
-        k += 1;
+    for k in 0..candidates.start.len() {
+        check_candidate(n, candidates, matrix, k)?;
     }
-    Verdict::Fine
+    Ok(())
 }
 
-// The sweep: tests 8 to 11 of all candidates, row by row. It says only whether one fails, so that each loop below can run to its end
-// and choose values, not ways: such loops become vector instructions.
-fn higher_kind(a: u8, b: u8) -> u8
-    ensures { (a ≤ result) × (b ≤ result) }
+// The highest of the numbers of so many candidates, or 0. The loop runs to its end and chooses values, not ways: such a loop becomes vector
+// instructions.
+fn highest<F: Fn(usize) -> u16>(count: usize, number: F) -> u16
+    requires { (k : ℕ) → k < count → F.pre number k }
+    ensures { (k : ℕ) → k < count → (r : ℕ) × F.post number k r × (r ≤ result) }
 {
-    if a < b { b } else { a }
-}
-
-fn higher(a: u16, b: u16) -> u16
-    ensures { (a ≤ result) × (b ≤ result) }
-{
-    if a < b { b } else { a }
-}
-
-// 1 if a test holds.
-fn flag(test: bool) -> u16
-    ensures { result ≡ flag_of test }
-{
-    if test { 1 } else { 0 }
-}
-
-// The highest kind (test 8).
-fn highest_kind(kind: &[u8]) -> u8
-    ensures { NoneAbove (in_row kind.now) (length kind.now) result }
-{
-    let mut highest = 0;
-    let mut i = 0;
-    while i < kind.len() {
-        highest = higher_kind(highest, kind[i]);
-        i += 1;
+    let mut highest: u16 = 0;
+    for k in 0..count {
+        highest = highest.max(number(k));
     }
     highest
 }
 
-// Not 0 if a start is below the previous one (test 9).
-fn any_below_previous(start: &[u16]) -> u16
-    ensures { NoneAbove (out_of_order start.now) (length start.now) result }
+// The sweep: tests 8 to 11 of all candidates, row by row, a test as 1 where it holds. It says only whether one fails. It may miss nothing:
+// where it says true, no candidate is refused. (The four tests above, called in such loops as they stand, took a job of 512 characters an
+// eighth longer: 35.0 for 31.3 microseconds.)
+fn all_pass(n: usize, candidates: &Candidates, matrix: &Matrix) -> bool
+    requires { EvenRows candidates.now }
+    ensures { result ≡ true → first_refusal n candidates.now matrix.now ≡ None }
 {
-    let mut any = 0;
-    let mut i = 1;
-    while i < start.len() {
-        any = higher(any, flag(start[i] < start[i - 1]));
-        i += 1;
-    }
-    any
-}
-
-// Not 0 if an end is not above its start (test 10).
-fn any_not_above(start: &[u16], end: &[u16]) -> u16
-    requires { length end.now ≡ length start.now }
-    ensures { NoneAbove (not_above start.now end.now) (length start.now) result }
-{
-    let mut any = 0;
-    let mut i = 0;
-    while i < start.len() {
-        any = higher(any, flag(end[i] <= start[i]));
-        i += 1;
-    }
-    any
-}
-
-// The highest end (test 10).
-fn highest_end(end: &[u16]) -> u16
-    ensures { NoneAbove (in_row end.now) (length end.now) result }
-{
-    let mut highest = 0;
-    let mut i = 0;
-    while i < end.len() {
-        highest = higher(highest, end[i]);
-        i += 1;
-    }
-    highest
-}
-
-// A left and a right id.
-#[derive(Clone, Copy)]
-struct Ids {
-    left: u16,
-    right: u16,
-}
-
-// The highest ids of the first c candidates (test 11).
-fn highest_ids(entry: &[u8], c: usize) -> Ids
-    requires { length entry.now ≡ entry_bytes * c }
-    ensures { NoneAbove (left_id_of entry.now) c result.left × NoneAbove (right_id_of entry.now) c result.right }
-{
-    let mut left = 0;
-    let mut right = 0;
-    let mut i = 0;
-    while i < c {
-        let word = Entry::read(entry, i);
-        left = higher(left, word.left_id);
-        right = higher(right, word.right_id);
-        i += 1;
-    }
-    Ids { left, right }
-}
-
-// The whole sweep. It may miss nothing: where it says true, no candidate is refused.
-fn all_pass(
-    n: usize,
-    start: &[u16],
-    end: &[u16],
-    kind: &[u8],
-    entry: &[u8],
-    height: u32,
-    width: u32,
-) -> bool
-    requires { (length end.now ≡ length start.now) × (length kind.now ≡ length start.now)
-        × (length entry.now ≡ entry_bytes * length start.now) }
-    ensures { result ≡ true → candidates_refused n start.now end.now kind.now entry.now height width ≡ none }
-{
-    if bad_kind(highest_kind(kind)) {
+    let Candidates {
+        start,
+        end,
+        kind,
+        entry,
+        ..
+    } = *candidates;
+    let c = start.len();
+    if highest(c, |k| u16::from(bad_kind(kind[k]))) != 0 {
         return false;
     }
-    if any_below_previous(start) != 0 {
+    if highest(c.saturating_sub(1), |k| u16::from(start[k + 1] < start[k])) != 0 {
         return false;
     }
-    if any_not_above(start, end) != 0 {
+    if highest(c, |k| u16::from(end[k] <= start[k])) != 0 {
         return false;
     }
-    if n < highest_end(end) as usize {
+    if n < usize::from(highest(c, |k| end[k])) {
         return false;
     }
-    let ids = highest_ids(entry, start.len());
-    if height <= ids.left as u32 {
+    if matrix.height <= u32::from(highest(c, |k| Entry::read(entry, k).left_id)) {
         return false;
     }
-    (ids.right as u32) < width
+    u32::from(highest(c, |k| Entry::read(entry, k).right_id)) < matrix.width
 }
 
 // The tests of all candidates. Nearly every job passes: one by one only if the sweep finds something.
-pub fn check_candidates(
-    n: usize,
-    start: &[u16],
-    end: &[u16],
-    kind: &[u8],
-    entry: &[u8],
-    height: u32,
-    width: u32,
-) -> Verdict
-    requires { (length end.now ≡ length start.now) × (length kind.now ≡ length start.now)
-        × (length entry.now ≡ entry_bytes * length start.now) × (length start.now ≤ candidate_limit) }
-    ensures { result ≡ verdict_of (candidates_refused n start.now end.now kind.now entry.now height width) }
+pub fn check_candidates(n: usize, candidates: &Candidates, matrix: &Matrix) -> Result<(), Refusal>
+    requires { EvenRows candidates.now × (length candidates.now.start.now ≤ candidate_limit) }
+    ensures { result ≡ unless (first_refusal n candidates.now matrix.now) tt }
 {
-    if all_pass(n, start, end, kind, entry, height, width) {
-        return Verdict::Fine;
+    if all_pass(n, candidates, matrix) {
+        return Ok(());
     }
-    first_refused(n, start, end, kind, entry, height, width)
+    first_refused(n, candidates, matrix)
 }

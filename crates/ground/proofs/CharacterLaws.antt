@@ -3,7 +3,8 @@ use Prim.Native.Nat.{ℕ, ◌+◌}
 use mathlib.Core.Path.{◌≡◌, refl, ap, ◌∙◌, sym}
 use mathlib.Core.Bool.{Bool, true, false, ◌||◌}
 use mathlib.Core.List.{List, [], ◌∷◌, map}
-use mathlib.Core.Option.{Option, none, some, or_else}
+use Rattle.std.specs.Prelude.{Option, None, Some, Result, Ok, Err}
+use Rattle.std.specs.Option.{option_or}
 use native.Mathlib.Omega.{arith}
 use lib.ListN.{length}
 use lib.IntN.{pos}
@@ -11,20 +12,18 @@ use lib.Dec.{ltb}
 use borrow.Author.Tests.{ltb-false, eqb-true}
 use Rattle.ground.specs.Limits.{text_limit, character_limit}
 use Rattle.ground.specs.Text.{leads, lead_row, all_later, six_bits, letter_at, letters_in, letters, sizes, well_formed, offsets_from, offsets, runs}
-use Rattle.ground.specs.Answer.{refuse}
-use Rattle.ground.specs.Characters.{text_refused, checked_by, checked, Sound, Outcome, outcome, short, filled_unless, characters}
-use Rattle.ground.specs.declared.answer.Answer.{Answer}
-use Rattle.ground.specs.declared.answer.Answer.TheVariants.{Done, NotUtf8, ShortRow}
-use Rattle.ground.specs.declared.text.Checked.{Checked}
-use Rattle.ground.specs.declared.text.Checked.TheVariants.{Passed, Refused}
+use Rattle.ground.specs.Answer.{work_done, refuse, unless}
+use Rattle.ground.specs.Characters.{text_refused, checked, Sound, Outcome, outcome, short, filled_unless, characters}
+use Rattle.ground.specs.declared.answer.Refusal.{Refusal}
+use Rattle.ground.specs.declared.answer.Refusal.TheVariants.{NotUtf8, ShortRow}
 use Rattle.ground.proofs.RowLaws.{over_length, offsets_length, runs_length}
 
 -- what it means that the tests were passed
-pub passed : (text : List ℕ) (n : ℕ) → checked text ≡ Passed n → Sound text n
-unfolding checked or_else
+pub passed : (text : List ℕ) (n : ℕ) → checked text ≡ Ok n → Sound text n
+unfolding checked
 passed text n e = go (ltb text_limit (length text)) refl (well_formed text) refl (ltb character_limit (length (letters text))) refl
   where
-    no : (a : Answer) → Refused a ≡ Passed n → ⊥
+    no : (a : Refusal) → Err a ≡ Ok n → ⊥
     no a e = let z : ◌≡◌ {A = ℕ} 0 1 = cc in omega arith
 
     go : (long : Bool) → ltb text_limit (length text) ≡ long → (whole : Bool) → well_formed text ≡ whole
@@ -34,7 +33,7 @@ passed text n e = go (ltb text_limit (length text)) refl (well_formed text) refl
     go false l false w false m = absurd (no _ (simp (l, w, m) at e))
     go false l true w true m = absurd (no _ (simp (l, w, m) at e))
     go false l true w false m =
-        let p : Passed (length (letters text)) ≡ Passed n = simp (l, w, m) at e in
+        let p : Ok (length (letters text)) ≡ Ok n = simp (l, w, m) at e in
         let q : length (letters text) ≡ n = cc in
         record {
           bytes = ltb-false text_limit (length text) l;
@@ -44,19 +43,19 @@ passed text n e = go (ltb text_limit (length text)) refl (well_formed text) refl
         }
 
 -- the table's effect by the outcome of the tests: the answer and unchanged rows, or the test of the rows and then the filling
-abbrev pub effect : Checked → List ℕ → List ℕ → List ℕ → Outcome
-effect (Refused answer) text offset run = filled_unless (some answer) text offset run
-effect (Passed n) text offset run = filled_unless (refuse (short n offset || short n run) ShortRow) text offset run
+abbrev pub effect : Result ℕ Refusal → List ℕ → List ℕ → List ℕ → Outcome
+effect (Err why) text offset run = filled_unless (Some why) text offset run
+effect (Ok n) text offset run = filled_unless (refuse (short n offset || short n run) ShortRow) text offset run
 
-pub by_tests : (text offset run : List ℕ) (outcome : Checked) → checked text ≡ outcome → effect outcome text offset run ≡ characters text offset run
-unfolding checked characters or_else
+pub by_tests : (text offset run : List ℕ) (outcome : Result ℕ Refusal) → checked text ≡ outcome → effect outcome text offset run ≡ characters text offset run
+unfolding checked characters
 by_tests text offset run outcome e =
-    ap (λ (c : Checked). effect c text offset run) (sym e) ∙ go (text_refused text)
+    ap (λ (c : Result ℕ Refusal). effect c text offset run) (sym e) ∙ go (text_refused text)
   where
-    go : (refused : Option Answer) → effect (checked_by refused (length (letters text))) text offset run
-        ≡ filled_unless (or_else refused (refuse (short (length (letters text)) offset || short (length (letters text)) run) ShortRow)) text offset run
-    go none = refl
-    go (some answer) = refl
+    go : (refused : Option Refusal) → effect (unless refused (length (letters text))) text offset run
+        ≡ filled_unless (option_or refused (refuse (short (length (letters text)) offset || short (length (letters text)) run) ShortRow)) text offset run
+    go None = refl
+    go (Some why) = refl
 
 -- ---- what a caller may lean on
 
@@ -77,10 +76,10 @@ lengths text offset run = go (checked text) refl
           over_length (runs ls) run (omega (arith, runs_length ls, ltb-false (length run) (length ls + 1) q)),
         )
 
-    go : (outcome : Checked) → checked text ≡ outcome → Kept (characters text offset run) offset run
-    go (Refused answer) e = rw (← by_tests text offset run (Refused answer) e) (refl, refl)
-    go (Passed k) e =
-        rw (← by_tests text offset run (Passed k) e, (passed text k e).count)
+    go : (outcome : Result ℕ Refusal) → checked text ≡ outcome → Kept (characters text offset run) offset run
+    go (Err why) e = rw (← by_tests text offset run (Err why) e) (refl, refl)
+    go (Ok k) e =
+        rw (← by_tests text offset run (Ok k) e, (passed text k e).count)
         (filled (short (length (letters text)) offset) (short (length (letters text)) run) refl refl)
 
 -- Document 01's example L (a surrogate, an overlong form, the last code point) and B's text (three kanji); then no text, a run that is
@@ -101,13 +100,13 @@ sevens = 7 ∷ 7 ∷ 7 ∷ 7 ∷ 7 ∷ []
 
 example_l :
     map (λ (text : List ℕ). characters text sevens sevens) examples
-    ≡ outcome (NotUtf8 0) sevens sevens
-    ∷ outcome (NotUtf8 1) sevens sevens
-    ∷ outcome (Done 1 (pos 0)) (0 ∷ 4 ∷ 7 ∷ 7 ∷ 7 ∷ []) (0 ∷ 0 ∷ 7 ∷ 7 ∷ 7 ∷ [])
-    ∷ outcome (Done 3 (pos 0)) (0 ∷ 3 ∷ 6 ∷ 9 ∷ 7 ∷ []) (3 ∷ 2 ∷ 1 ∷ 0 ∷ 7 ∷ [])
-    ∷ outcome (Done 0 (pos 0)) (0 ∷ 7 ∷ 7 ∷ 7 ∷ 7 ∷ []) (0 ∷ 7 ∷ 7 ∷ 7 ∷ 7 ∷ [])
-    ∷ outcome (Done 3 (pos 0)) (0 ∷ 3 ∷ 4 ∷ 7 ∷ 7 ∷ []) (1 ∷ 0 ∷ 1 ∷ 0 ∷ 7 ∷ [])
-    ∷ outcome ShortRow sevens sevens
+    ≡ outcome (Err (NotUtf8 0)) sevens sevens
+    ∷ outcome (Err (NotUtf8 1)) sevens sevens
+    ∷ outcome (work_done 1 (pos 0)) (0 ∷ 4 ∷ 7 ∷ 7 ∷ 7 ∷ []) (0 ∷ 0 ∷ 7 ∷ 7 ∷ 7 ∷ [])
+    ∷ outcome (work_done 3 (pos 0)) (0 ∷ 3 ∷ 6 ∷ 9 ∷ 7 ∷ []) (3 ∷ 2 ∷ 1 ∷ 0 ∷ 7 ∷ [])
+    ∷ outcome (work_done 0 (pos 0)) (0 ∷ 7 ∷ 7 ∷ 7 ∷ 7 ∷ []) (0 ∷ 7 ∷ 7 ∷ 7 ∷ 7 ∷ [])
+    ∷ outcome (work_done 3 (pos 0)) (0 ∷ 3 ∷ 4 ∷ 7 ∷ 7 ∷ []) (1 ∷ 0 ∷ 1 ∷ 0 ∷ 7 ∷ [])
+    ∷ outcome (Err ShortRow) sevens sevens
     ∷ []
-unfolding examples sevens characters or_else letters letters_in letter_at leads lead_row all_later six_bits sizes offsets_from runs
+unfolding examples sevens characters letters letters_in letter_at leads lead_row all_later six_bits sizes offsets_from runs
 example_l = refl

@@ -9,7 +9,7 @@ use lib.Seq.{sets}
 use Rattle.ground.specs.Text.{letter_at, letters, sizes, offsets_from, offsets}
 use Rattle.ground.specs.Filling.{kanji_bit, kanji_bits}
 use Rattle.ground.specs.declared.text.Letter.{Letter}
-use Rattle.ground.specs.declared.text.Decoded.TheVariants.{Whole}
+use Rattle.std.specs.Prelude.{Some}
 use Rattle.ground.proofs.LetterLaws.{letter_ends}
 use Rattle.ground.proofs.TextLaws.{letters_next, letters_end}
 
@@ -37,7 +37,7 @@ module _ (text offset₀ run₀ : List ℕ) where
       }
 
   -- one character more
-  pub filled_more : (offset run : List ℕ) (at i : ℕ) (letter : Letter) → letter_at (drop at text) ≡ Whole letter
+  pub filled_more : (offset run : List ℕ) (at i : ℕ) (letter : Letter) → letter_at (drop at text) ≡ Some letter
       → Filled text offset₀ run₀ offset run at i
       → Filled text offset₀ run₀ (set offset i at) (set run i (kanji_bit letter.code)) (at + letter.size) (i + 1)
   unfolding sizes offsets_from kanji_bits

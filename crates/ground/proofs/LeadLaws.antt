@@ -14,7 +14,7 @@ use borrow.Author.Tests.{leb-true, ltb-true, eqb-true}
 use Rattle.ground.specs.Text.{lead, leads, lead_row, is_lead, within}
 use Rattle.ground.specs.Filling.{size_by_lead}
 use Rattle.ground.specs.declared.text.Lead.{Lead}
-use Rattle.ground.specs.declared.text.LeadFound.TheVariants.{Row}
+use Rattle.std.specs.Prelude.{Some}
 use Rattle.ground.proofs.RangeLaws.{at_least_mono}
 
 -- a test passes at every row
@@ -34,23 +34,23 @@ every_member test (first ∷ rows) e row m =
     ⊎_elim (λ (q : row ≡ first). rw q b.0) (λ (n : Memᴰ row rows). every_member test rows b.1 row n) (Memᴰ.cases_cons m)
 
 -- the row that is found is a row of the table, and has the byte
-found : (rows : List Lead) (byte : ℕ) (row : Lead) → lead_row rows byte ≡ Row row → Memᴰ row rows × (is_lead row byte ≡ true)
+found : (rows : List Lead) (byte : ℕ) (row : Lead) → lead_row rows byte ≡ Some row → Memᴰ row rows × (is_lead row byte ≡ true)
 unfolding lead_row
 found [] byte row f = let z : ◌≡◌ {A = ℕ} 0 1 = cc in absurd (omega arith)
 found (first ∷ rows) byte row f = go (is_lead first byte) refl f (found rows byte row)
   where
-    go : (t : Bool) → is_lead first byte ≡ t → cond t (Row first) (lead_row rows byte) ≡ Row row
-        → (lead_row rows byte ≡ Row row → Memᴰ row rows × (is_lead row byte ≡ true)) → Memᴰ row (first ∷ rows) × (is_lead row byte ≡ true)
+    go : (t : Bool) → is_lead first byte ≡ t → cond t (Some first) (lead_row rows byte) ≡ Some row
+        → (lead_row rows byte ≡ Some row → Memᴰ row rows × (is_lead row byte ≡ true)) → Memᴰ row (first ∷ rows) × (is_lead row byte ≡ true)
     go true e f more = let q : first ≡ row = cc in (Memᴰ.head (sym q), rw (← q) e)
     go false e f more = let m = more f in (Memᴰ.tail m.0, m.1)
 
 -- the rows from i on find the i-th where it has the byte, and otherwise what those behind it find
 pub row_here : (rows : List Lead) (i : ℕ) (none : Lead) (byte : ℕ) → i < length rows → (t : Bool) → is_lead (get_or rows i none) byte ≡ t
-    → lead_row (drop i rows) byte ≡ cond t (Row (get_or rows i none)) (lead_row (drop (suc i) rows) byte)
+    → lead_row (drop i rows) byte ≡ cond t (Some (get_or rows i none)) (lead_row (drop (suc i) rows) byte)
 unfolding lead_row
 row_here rows i none byte h t e =
     ap (λ (l : List Lead). lead_row l byte) (drop-cons rows i none h)
-    ∙ ap (λ (b : Bool). cond b (Row (get_or rows i none)) (lead_row (drop (suc i) rows) byte)) e
+    ∙ ap (λ (b : Bool). cond b (Some (get_or rows i none)) (lead_row (drop (suc i) rows) byte)) e
 
 -- No row's lead bytes reach up to those of a row behind it.
 abbrev apart : List Lead → Bool
@@ -58,7 +58,7 @@ apart [] = true
 apart (row ∷ rows) = every (λ (later : Lead). ltb row.high later.low) rows && apart rows
 
 -- So, in rows that rise, the row that has a byte is the one that is found.
-only : (rows : List Lead) → apart rows ≡ true → (byte : ℕ) (row : Lead) → Memᴰ row rows → is_lead row byte ≡ true → lead_row rows byte ≡ Row row
+only : (rows : List Lead) → apart rows ≡ true → (byte : ℕ) (row : Lead) → Memᴰ row rows → is_lead row byte ≡ true → lead_row rows byte ≡ Some row
 unfolding lead_row
 only [] a byte row m e = absurd (Memᴰ.not-nil m)
 only (first ∷ rows) a byte row m e =
@@ -72,14 +72,14 @@ only (first ∷ rows) a byte row m e =
     b : (every (λ (later : Lead). ltb first.high later.low) rows ≡ true) × (apart rows ≡ true)
     b = both (every (λ (later : Lead). ltb first.high later.low) rows) (apart rows) a
 
-    go : (t : Bool) → is_lead first byte ≡ t → lead_row rows byte ≡ Row row → first.high < row.low → cond t (Row first) (lead_row rows byte) ≡ Row row
+    go : (t : Bool) → is_lead first byte ≡ t → lead_row rows byte ≡ Some row → first.high < row.low → cond t (Some first) (lead_row rows byte) ≡ Some row
     go false q found above = found
     go true q found above =
         let lower = both (leb first.low byte) (leb byte first.high) q in
         let higher = both (leb row.low byte) (leb byte row.high) e in
         absurd (omega (arith, leb-true byte first.high lower.1, leb-true row.low byte higher.0))
 
-pub row_exact : (byte : ℕ) (row : Lead) → Memᴰ row leads → is_lead row byte ≡ true → lead_row leads byte ≡ Row row
+pub row_exact : (byte : ℕ) (row : Lead) → Memᴰ row leads → is_lead row byte ≡ true → lead_row leads byte ≡ Some row
 unfolding leads
 row_exact byte row m e = only leads refl byte row m e
 
@@ -87,7 +87,7 @@ row_exact byte row m e = only leads refl byte row m e
 abbrev pub common : Lead
 common = lead 0xe1 0xec 0x80 0xbf 3
 
-pub common_found : (byte : ℕ) → is_lead common byte ≡ true → lead_row leads byte ≡ Row common
+pub common_found : (byte : ℕ) → is_lead common byte ≡ true → lead_row leads byte ≡ Some common
 unfolding leads
 common_found byte e =
     row_exact byte common (Memᴰ.tail (Memᴰ.tail (Memᴰ.tail (Memᴰ.head refl)))) e
@@ -96,11 +96,11 @@ common_found byte e =
 rule : Lead → Bool
 rule row = within 1 4 row.size && (eqb (size_by_lead row.low) row.size && eqb (size_by_lead row.high) row.size)
 
-holds : (byte : ℕ) (row : Lead) → lead_row leads byte ≡ Row row → rule row ≡ true
+holds : (byte : ℕ) (row : Lead) → lead_row leads byte ≡ Some row → rule row ≡ true
 unfolding leads rule
 holds byte row f = every_member rule leads refl row (found leads byte row f).0
 
-pub row_size : (byte : ℕ) (row : Lead) → lead_row leads byte ≡ Row row → (1 ≤ row.size) × (row.size ≤ 4)
+pub row_size : (byte : ℕ) (row : Lead) → lead_row leads byte ≡ Some row → (1 ≤ row.size) × (row.size ≤ 4)
 unfolding rule
 row_size byte row f =
     let r = both (within 1 4 row.size) (eqb (size_by_lead row.low) row.size && eqb (size_by_lead row.high) row.size) (holds byte row f) in
@@ -112,7 +112,7 @@ size_mono : (a b : ℕ) → a ≤ b → size_by_lead a ≤ size_by_lead b
 size_mono a b h = omega (arith, at_least_mono 0x80 a b h, at_least_mono 0xe0 a b h, at_least_mono 0xf0 a b h)
 
 -- so each lead byte of a row tells the row's length
-pub lead_size : (byte : ℕ) (row : Lead) → lead_row leads byte ≡ Row row → size_by_lead byte ≡ row.size
+pub lead_size : (byte : ℕ) (row : Lead) → lead_row leads byte ≡ Some row → size_by_lead byte ≡ row.size
 unfolding rule
 lead_size byte row f =
     let r = both (within 1 4 row.size) (eqb (size_by_lead row.low) row.size && eqb (size_by_lead row.high) row.size) (holds byte row f) in

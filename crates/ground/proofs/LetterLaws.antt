@@ -4,54 +4,56 @@ use mathlib.Core.Path.{◌≡◌, refl, ap, ◌∙◌, sym}
 use mathlib.Core.Bool.{Bool, true, false, cond, ◌&&◌}
 use mathlib.Core.List.{List, [], ◌∷◌}
 use native.Mathlib.Omega.{arith}
-use native.Mathlib.Nat.{add-zero}
 use lib.Dec.{eqb}
 use lib.ListN.{length, take, drop, get_or, length-take, length-drop}
-use lib.Seq.{drop-cons, length-take-le, take_all, get_or-drop}
+use lib.Seq.{drop-cons, length-take-le, take_all}
 use borrow.Author.Tests.{eqb-true, eq-eqb, ne_eqb}
 use Rattle.ground.specs.Text.{leads, lead_row, is_second, is_later, all_later, may_follow, lead_bits, six_bits, code_of, letter_of, letter_by, letter_at}
 use Rattle.ground.specs.Filling.{letter_of_size}
 use Rattle.ground.specs.declared.text.Lead.{Lead}
-use Rattle.ground.specs.declared.text.LeadFound.{LeadFound}
-use Rattle.ground.specs.declared.text.LeadFound.TheVariants.{Row, NoRow}
+use Rattle.std.specs.Prelude.{Option, None, Some}
 use Rattle.ground.specs.declared.text.Letter.{Letter}
-use Rattle.ground.specs.declared.text.Decoded.{Decoded}
-use Rattle.ground.specs.declared.text.Decoded.TheVariants.{Whole, IllFormed}
 use Rattle.ground.proofs.LeadLaws.{row_size}
 
 -- no character is made of too few bytes
-pub too_short : (row : Lead) (byte : ℕ) (following : List ℕ) → suc (length following) < row.size → letter_of row byte following ≡ IllFormed
+pub too_short : (row : Lead) (byte : ℕ) (following : List ℕ) → suc (length following) < row.size → letter_of row byte following ≡ None
 too_short row byte following h = rw (ne_eqb (suc (length following)) row.size (λ e. omega arith))
 
 -- with as many bytes as the row says, what follows the lead byte decides
 pub judged : (row : Lead) (byte : ℕ) (following : List ℕ) → suc (length following) ≡ row.size → (t : Bool) → may_follow row following ≡ t
     → letter_of row byte following
-    ≡ cond t (Whole (record { size = row.size; code = code_of byte following })) IllFormed
+    ≡ cond t (Some (record { size = row.size; code = code_of byte following })) None
 judged row byte following e t m = rw (eq-eqb (suc (length following)) row.size e, m)
 
 -- the row of the first byte decides
-pub letter_row : (bytes : List ℕ) (found : LeadFound) → 0 < length bytes → lead_row leads (get_or bytes 0 0) ≡ found
+pub letter_row : (bytes : List ℕ) (found : Option Lead) → 0 < length bytes → lead_row leads (get_or bytes 0 0) ≡ found
     → letter_at bytes ≡ letter_by found (get_or bytes 0 0) (drop 1 bytes)
 unfolding letter_at
 letter_row [] found h e = absurd (omega arith)
-letter_row (byte ∷ rest) found h e = ap (λ (f : LeadFound). letter_by f byte rest) e
+letter_row (byte ∷ rest) found h e = ap (λ (f : Option Lead). letter_by f byte rest) e
+
+-- no bytes begin with none
+pub no_letter : (bytes : List ℕ) → length bytes ≤ 0 → letter_at bytes ≡ None
+unfolding letter_at
+no_letter [] h = refl
+no_letter (byte ∷ rest) h = absurd (omega arith)
 
 -- What is known of a character: the row of its lead byte gives its length, and its code point is made of as many bytes.
 pub record Parts (bytes : List ℕ) (letter : Letter) : Type 0 where
   pub row : Lead
-  pub lead : lead_row leads (get_or bytes 0 0) ≡ Row row
+  pub lead : lead_row leads (get_or bytes 0 0) ≡ Some row
   pub size : letter.size ≡ row.size
   pub code : letter.code ≡ (letter_of_size bytes letter.size).code
   pub enough : letter.size ≤ length bytes
 
-pub letter_parts : (bytes : List ℕ) (letter : Letter) → letter_at bytes ≡ Whole letter → Parts bytes letter
+pub letter_parts : (bytes : List ℕ) (letter : Letter) → letter_at bytes ≡ Some letter → Parts bytes letter
 unfolding letter_at
 letter_parts [] letter e = let z : ◌≡◌ {A = ℕ} 0 1 = cc in absurd (omega arith)
 letter_parts (byte ∷ rest) letter e = go (lead_row leads byte) refl e
   where
-    made : (row : Lead) → lead_row leads byte ≡ Row row → (following : List ℕ) → following ≡ take (row.size - 1) rest
+    made : (row : Lead) → lead_row leads byte ≡ Some row → (following : List ℕ) → following ≡ take (row.size - 1) rest
         → (t : Bool) → eqb (suc (length following)) row.size ≡ t
-        → (m : Bool) → cond (t && m) (Whole (record { size = row.size; code = code_of byte following })) IllFormed ≡ Whole letter
+        → (m : Bool) → cond (t && m) (Some (record { size = row.size; code = code_of byte following })) None ≡ Some letter
         → Parts (byte ∷ rest) letter
     made row f following l true t true w =
         let long : suc (length following) ≡ row.size = eqb-true (suc (length following)) row.size t in
@@ -68,31 +70,28 @@ letter_parts (byte ∷ rest) letter e = go (lead_row leads byte) refl e
     made row f following l true t false w = let z : ◌≡◌ {A = ℕ} 0 1 = cc in absurd (omega arith)
     made row f following l false t m w = let z : ◌≡◌ {A = ℕ} 0 1 = cc in absurd (omega arith)
 
-    go : (r : LeadFound) → lead_row leads byte ≡ r → letter_by r byte rest ≡ Whole letter → Parts (byte ∷ rest) letter
-    go NoRow f w = let z : ◌≡◌ {A = ℕ} 0 1 = cc in absurd (omega arith)
-    go (Row row) f w =
+    go : (r : Option Lead) → lead_row leads byte ≡ r → letter_by r byte rest ≡ Some letter → Parts (byte ∷ rest) letter
+    go None f w = let z : ◌≡◌ {A = ℕ} 0 1 = cc in absurd (omega arith)
+    go (Some row) f w =
         made row f (take (row.size - 1) rest) refl (eqb (suc (length (take (row.size - 1) rest))) row.size) refl (may_follow row (take (row.size - 1) rest)) w
 
 -- a character has at least one byte, and no more than there are
-pub letter_size : (bytes : List ℕ) (letter : Letter) → letter_at bytes ≡ Whole letter → (1 ≤ letter.size) × (letter.size ≤ length bytes)
+pub letter_size : (bytes : List ℕ) (letter : Letter) → letter_at bytes ≡ Some letter → (1 ≤ letter.size) × (letter.size ≤ length bytes)
 letter_size bytes letter e =
     let p = letter_parts bytes letter e in
     (omega (arith, row_size (get_or bytes 0 0) p.row p.lead), p.enough)
 
 -- what is not ill formed is a character
-pub well_formed_lem : (bytes : List ℕ) → (letter_at bytes ≡ IllFormed → ⊥) → (letter : Letter) × (letter_at bytes ≡ Whole letter)
+pub well_formed_lem : (bytes : List ℕ) → (letter_at bytes ≡ None → ⊥) → (letter : Letter) × (letter_at bytes ≡ Some letter)
 well_formed_lem bytes h = go (letter_at bytes) refl
   where
-    go : (next : Decoded) → letter_at bytes ≡ next → (letter : Letter) × (letter_at bytes ≡ Whole letter)
-    go IllFormed e = absurd (h e)
-    go (Whole letter) e = (letter, e)
+    go : (next : Option Letter) → letter_at bytes ≡ next → (letter : Letter) × (letter_at bytes ≡ Some letter)
+    go None e = absurd (h e)
+    go (Some letter) e = (letter, e)
 
--- a part from a place on to the end, its first byte, and one byte at a time
+-- a part from a place on to the end, and one byte at a time
 pub part_rest : (text : List ℕ) (at : ℕ) → take (length text - at) (drop at text) ≡ drop at text
 part_rest text at = take_all (length text - at) (drop at text) (omega (arith, length-drop at text))
-
-pub part_first : (text : List ℕ) (at : ℕ) → get_or (drop at text) 0 0 ≡ get_or text at 0
-part_first text at = get_or-drop at text 0 0 ∙ ap (λ (k : ℕ). get_or text k 0) (add-zero at)
 
 pub take_drop : (k i : ℕ) (bytes : List ℕ) → i < length bytes → take (suc k) (drop i bytes) ≡ get_or bytes i 0 ∷ take k (drop (suc i) bytes)
 take_drop k i bytes h = ap (λ (l : List ℕ). take (suc k) l) (drop-cons bytes i 0 h)
@@ -131,7 +130,7 @@ code_two bytes h =
     omega (arith, code_sized bytes 2 (omega arith) h ∙ six_next bytes 0 1 (get_or bytes 0 0 % 32) (omega arith))
 
 -- a character of a text ends within it
-pub letter_ends : (text : List ℕ) (at : ℕ) (letter : Letter) → letter_at (drop at text) ≡ Whole letter → at ≤ length text
+pub letter_ends : (text : List ℕ) (at : ℕ) (letter : Letter) → letter_at (drop at text) ≡ Some letter → at ≤ length text
     → (1 ≤ letter.size) × (at + letter.size ≤ length text)
 letter_ends text at letter e h =
     let s = letter_size (drop at text) letter e in

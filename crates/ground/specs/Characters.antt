@@ -1,30 +1,23 @@
 -- The public operation "character table alone": its tests in document 01's order, and its whole effect.
-use Rattle.std.specs.Prelude.{ℕ, ◌+◌, ◌≤◌, ◌≡◌, Bool, not, ◌||◌, List, length, pos, ltb}
-use Rattle.std.proofs.Math.Option.{Option, none, some, or_else}
+use Rattle.std.specs.Prelude.{ℕ, ◌+◌, ◌≤◌, ◌≡◌, Bool, not, ◌||◌, List, length, pos, ltb, Option, None, Some, Result, Err}
+use Rattle.std.specs.Option.{option_or}
 use Rattle.ground.specs.Limits.{text_limit, character_limit}
 use Rattle.ground.specs.Rows.{over}
-use Rattle.ground.specs.Answer.{refuse}
+use Rattle.ground.specs.Answer.{Answer, work_done, refuse, unless}
 use Rattle.ground.specs.Text.{letters, sizes, well_formed, offsets, runs}
-use Rattle.ground.specs.declared.answer.Answer.{Answer}
-use Rattle.ground.specs.declared.answer.Answer.TheVariants.{Done, TooLong, NotUtf8, ShortRow}
-use Rattle.ground.specs.declared.text.Checked.{Checked}
-use Rattle.ground.specs.declared.text.Checked.TheVariants.{Passed, Refused}
+use Rattle.ground.specs.declared.answer.Refusal.{Refusal}
+use Rattle.ground.specs.declared.answer.Refusal.TheVariants.{TooLong, NotUtf8, ShortRow}
 
 -- The tests of a text, 2, 1 and 2: the first that holds decides.
-abbrev pub text_refused : List ℕ → Option Answer
+abbrev pub text_refused : List ℕ → Option Refusal
 text_refused text =
-    or_else (refuse (ltb text_limit (length text)) TooLong)
-    (or_else (refuse (not (well_formed text)) (NotUtf8 (sizes (letters text))))
+    option_or (refuse (ltb text_limit (length text)) TooLong)
+    (option_or (refuse (not (well_formed text)) (NotUtf8 (sizes (letters text))))
     (refuse (ltb character_limit (length (letters text))) TooLong))
 
--- The answer of the test that holds, or, where none does, the number of characters.
-abbrev pub checked_by : Option Answer → ℕ → Checked
-checked_by none n = Passed n
-checked_by (some answer) n = Refused answer
-
--- What the tests of a text tell.
-unfoldable pub checked : List ℕ → Checked
-checked text = checked_by (text_refused text) (length (letters text))
+-- What the tests of a text tell: the number of characters, or the refusal of the test that holds.
+unfoldable pub checked : List ℕ → Result ℕ Refusal
+checked text = unless (text_refused text) (length (letters text))
 
 -- A text that passes them: within both limits, well formed, and of n characters (`passed` in CharacterLaws).
 pub record Sound (text : List ℕ) (n : ℕ) : Type 0 where
@@ -48,16 +41,16 @@ abbrev pub short : ℕ → List ℕ → Bool
 short n row = ltb (length row) (n + 1)
 
 -- A refusal changes nothing; otherwise both rows are filled, and the places beyond keep their contents.
-abbrev pub filled_unless : Option Answer → List ℕ → List ℕ → List ℕ → Outcome
-filled_unless (some answer) text offset run = outcome answer offset run
-filled_unless none text offset run =
-    outcome (Done (length (letters text)) (pos 0)) (over (offsets (letters text)) offset) (over (runs (letters text)) run)
+abbrev pub filled_unless : Option Refusal → List ℕ → List ℕ → List ℕ → Outcome
+filled_unless (Some why) text offset run = outcome (Err why) offset run
+filled_unless None text offset run =
+    outcome (work_done (length (letters text)) (pos 0)) (over (offsets (letters text)) offset) (over (runs (letters text)) run)
 
 -- The character table: the tests of the text, then 7, then the filling.
 unfoldable pub characters : List ℕ → List ℕ → List ℕ → Outcome
 characters text offset run =
     filled_unless
-    (or_else (text_refused text)
+    (option_or (text_refused text)
     (refuse (short (length (letters text)) offset || short (length (letters text)) run) ShortRow))
     text
     offset

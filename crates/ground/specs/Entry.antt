@@ -1,9 +1,10 @@
 -- Document 01, "Word entry and matrix": the ten bytes of a word entry, and the kinds.
-use Rattle.std.specs.Prelude.{ℕ, zero, suc, ◌+◌, ◌-◌, ◌*◌, cond, List, get_or, ℤ, pos, negsuc, ltb}
+use Rattle.std.specs.Prelude.{ℕ, zero, suc, ◌+◌, ◌-◌, ◌*◌, cond, List, get_or, ℤ, pos, negsuc, ltb, Result, Ok, Err}
 use Rattle.ground.specs.Rows.{part}
 use Rattle.ground.specs.declared.entry.Entry.{Entry}
 use Rattle.ground.specs.declared.entry.Kind.{Kind}
-use Rattle.ground.specs.declared.entry.Kind.TheVariants.{System, User, Unknown, Unnamed}
+use Rattle.ground.specs.declared.entry.Kind.TheVariants.{System, User, Unknown}
+use Rattle.ground.specs.declared.entry.UnnamedKind.{UnnamedKind}
 
 -- Two bytes from place i on, little-endian.
 abbrev pub u16_at : List ℕ → ℕ → ℕ
@@ -44,8 +45,8 @@ unfolding entry_of
 entry_at bytes k = entry_of (entry_part bytes k)
 
 -- 0 system, 1 user, 2 unknown; any other number names no kind.
-abbrev pub kind_of : ℕ → Kind
-kind_of zero = System
-kind_of (suc zero) = User
-kind_of (suc (suc zero)) = Unknown
-kind_of (suc (suc (suc more))) = Unnamed
+abbrev pub kind_of : ℕ → Result Kind UnnamedKind
+kind_of zero = Ok System
+kind_of (suc zero) = Ok User
+kind_of (suc (suc zero)) = Ok Unknown
+kind_of (suc (suc (suc more))) = Err (record {})

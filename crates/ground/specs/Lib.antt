@@ -6,7 +6,8 @@
 --   leb, ltb, eqb   ≤, < and = as tests; `&&`, `||`, `not` join them
 --   [], x ∷ xs      the empty list; x in front of xs. `length` counts, `++` joins two lists; take n, drop n: the first n, and all but them; slice a b:
 --                   those from number a up to and without b; drop_last: all but the last; reverse: from the last to the first
---   none, some x    nothing, or x. `or_else o p` is o, or p where o is none
+--   None, Some x    nothing, or x: Rust's Option. `option_or o p` is o, or p where o is None; option_map f o: f of what it holds
+--   Ok x, Err e     x, or why there is none: Rust's Result
 --   get_or xs i d   the element of xs at i, counted from 0, or d where there is none
 --   record { .. }   a struct's value. declared.x.T is the type T of src/x.rt
 --   x ≡ y, P × Q    x is y; P and Q. `P ⊎ Q`: P or Q; `Unit` holds, and `⊥` does not. `(k : ℕ) → P`: P for every k; `(j : ℕ) × P`: P for
@@ -18,7 +19,9 @@
 --   /, %            quotient and remainder
 -- In the contracts of src/, `ensures { P }` says that every call ends and that P then holds of what it returned, `result`; `requires`, where
 -- there is one, what is asked of a caller. `row.now` is the content of a row that is read, `row.old` and `row.new` are those of a written row
--- before and after the call. A function with several clauses has a name for each.
+-- before and after the call. A function with several clauses has a name for each. Rows that are lent together are a struct of references, and
+-- `row.ghost_name` says which row a reference leads to: with equal names it is the same one. `IfOk r P` says P of what r holds if it is Ok, `OnOk r P` that P
+-- holds then, and `IfSome` is the same of an Option.
 pub mod Limits
 pub mod Rows
 pub mod Answer

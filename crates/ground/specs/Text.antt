@@ -1,11 +1,7 @@
 -- Document 01, "Characters": text by RFC 3629, and the two rows of the character table.
-use Rattle.std.specs.Prelude.{ℕ, zero, suc, ◌+◌, ◌-◌, ◌*◌, ◌%◌, Bool, true, cond, ◌&&◌, ◌||◌, List, [], ◌∷◌, length, take, drop, get_or, leb, eqb}
+use Rattle.std.specs.Prelude.{ℕ, zero, suc, ◌+◌, ◌-◌, ◌*◌, ◌%◌, Bool, true, cond, ◌&&◌, ◌||◌, List, [], ◌∷◌, length, take, drop, get_or, leb, eqb, Option, None, Some}
 use Rattle.ground.specs.declared.text.Lead.{Lead}
-use Rattle.ground.specs.declared.text.LeadFound.{LeadFound}
-use Rattle.ground.specs.declared.text.LeadFound.TheVariants.{Row, NoRow}
 use Rattle.ground.specs.declared.text.Letter.{Letter}
-use Rattle.ground.specs.declared.text.Decoded.{Decoded}
-use Rattle.ground.specs.declared.text.Decoded.TheVariants.{Whole, IllFormed}
 
 -- A range of bytes or of code points, both ends in it.
 abbrev pub within : ℕ → ℕ → ℕ → Bool
@@ -37,9 +33,9 @@ abbrev pub is_lead : Lead → ℕ → Bool
 is_lead row byte = within row.low row.high byte
 
 -- The row that has the byte as a lead byte. (No two rows have one in common: `row_exact` in LeadLaws.)
-unfoldable pub lead_row : List Lead → ℕ → LeadFound
-lead_row [] byte = NoRow
-lead_row (row ∷ rows) byte = cond (is_lead row byte) (Row row) (lead_row rows byte)
+unfoldable pub lead_row : List Lead → ℕ → Option Lead
+lead_row [] byte = None
+lead_row (row ∷ rows) byte = cond (is_lead row byte) (Some row) (lead_row rows byte)
 
 -- ---- one character
 
@@ -78,29 +74,29 @@ abbrev pub code_of : ℕ → List ℕ → ℕ
 code_of byte following = six_bits (lead_bits (length following) byte) following
 
 -- A character of a row: it has as many bytes as the row's length says, and those behind the lead byte may follow it.
-abbrev pub letter_of : Lead → ℕ → List ℕ → Decoded
+abbrev pub letter_of : Lead → ℕ → List ℕ → Option Letter
 letter_of row byte following =
     cond (eqb (suc (length following)) row.size && may_follow row following)
-    (Whole (record { size = row.size; code = code_of byte following }))
-    IllFormed
+    (Some (record { size = row.size; code = code_of byte following }))
+    None
 
 -- The character that a lead byte and the rest begin with: by the lead byte's row.
-abbrev pub letter_by : LeadFound → ℕ → List ℕ → Decoded
-letter_by NoRow byte rest = IllFormed
-letter_by (Row row) byte rest = letter_of row byte (take (row.size - 1) rest)
+abbrev pub letter_by : Option Lead → ℕ → List ℕ → Option Letter
+letter_by None byte rest = None
+letter_by (Some row) byte rest = letter_of row byte (take (row.size - 1) rest)
 
 -- The character that the bytes begin with, if they begin with a whole well-formed one.
-unfoldable pub letter_at : List ℕ → Decoded
+unfoldable pub letter_at : List ℕ → Option Letter
 unfolding leads lead_row
-letter_at [] = IllFormed
+letter_at [] = None
 letter_at (byte ∷ rest) = letter_by (lead_row leads byte) byte rest
 
 -- ---- the text: a list of letters. (A letter is one of document 01's characters: its length in bytes and its code point.)
 
 -- A whole character and those after it; nothing where none stands.
-abbrev pub followed_by : Decoded → (ℕ → List Letter) → List Letter
-followed_by IllFormed more = []
-followed_by (Whole letter) more = letter ∷ more letter.size
+abbrev pub followed_by : Option Letter → (ℕ → List Letter) → List Letter
+followed_by None more = []
+followed_by (Some letter) more = letter ∷ more letter.size
 
 -- The whole well-formed characters from the start, one after the other, at most `most` of them.
 unfoldable pub letters_in : ℕ → List ℕ → List Letter

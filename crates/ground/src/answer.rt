@@ -1,11 +1,17 @@
 // The answers of document 01, and the numbers that each returns.
 ghost use Rattle.std.specs.Prelude.{◌≡◌};
-ghost use Rattle.ground.specs.Answer.{numbers_of};
+ghost use Rattle.ground.specs.Answer.{refusal};
 
-#[derive(Clone, Copy)]
-pub enum Answer {
-    // The work is done: characters or words, and the cost.
-    Done { count: u32, cost: i32 },
+// The work is done: characters or words, and the cost.
+#[derive(Clone, Copy, Debug, PartialEq, Eq)]
+pub struct Done {
+    pub count: u32,
+    pub cost: i32,
+}
+
+// Why there is no such answer.
+#[derive(Clone, Copy, Debug, PartialEq, Eq)]
+pub enum Refusal {
     // The text is not UTF-8; place: just after the longest run of whole well-formed characters.
     NotUtf8 { place: u32 },
     // The text has too many bytes or too many characters.
@@ -34,9 +40,11 @@ pub enum Answer {
     BrokenLink,
 }
 
+pub type Answer = Result<Done, Refusal>;
+
 // The four numbers of an answer, as they cross to C.
 #[repr(C)]
-#[derive(Clone, Copy)]
+#[derive(Clone, Copy, Debug, PartialEq, Eq)]
 pub struct Numbers {
     pub number: u32,
     pub place: u32,
@@ -44,8 +52,8 @@ pub struct Numbers {
     pub cost: i32,
 }
 
-fn refusal(number: u32, place: u32) -> Numbers
-    ensures { result ≡ Rattle.ground.specs.Answer.refusal number place }
+fn numbered(number: u32, place: u32) -> Numbers
+    ensures { result ≡ refusal number place }
 {
     Numbers {
         number,
@@ -55,30 +63,57 @@ fn refusal(number: u32, place: u32) -> Numbers
     }
 }
 
-impl Answer {
-    pub fn numbers(self) -> Numbers
-        ensures { result ≡ numbers_of self }
-    {
-        match self {
-            Answer::Done { count, cost } => Numbers {
-                number: 0,
-                place: 0,
-                count,
-                cost,
-            },
-            Answer::NotUtf8 { place } => refusal(1, place),
-            Answer::TooLong => refusal(2, 0),
-            Answer::Uneven => refusal(3, 0),
-            Answer::TooMany => refusal(4, 0),
-            Answer::BadMatrix => refusal(5, 0),
-            Answer::BadMode => refusal(6, 0),
-            Answer::ShortRow => refusal(7, 0),
-            Answer::BadKind { place } => refusal(8, place),
-            Answer::OutOfOrder { place } => refusal(9, place),
-            Answer::BadSpan { place } => refusal(10, place),
-            Answer::BadId { place } => refusal(11, place),
-            Answer::NoPath => refusal(12, 0),
-            Answer::BrokenLink => refusal(13, 0),
+impl From<Done> for Numbers {
+    ghost use Rattle.std.specs.Prelude.{◌≡◌, Ok};
+    ghost use Rattle.ground.specs.Answer.{numbers_of};
+
+    ghost from_gives = { λ done numbers. numbers ≡ numbers_of (Ok done) };
+
+    fn from(done: Done) -> Numbers {
+        Numbers {
+            number: 0,
+            place: 0,
+            count: done.count,
+            cost: done.cost,
+        }
+    }
+}
+
+impl From<Refusal> for Numbers {
+    ghost use Rattle.std.specs.Prelude.{◌≡◌, Err};
+    ghost use Rattle.ground.specs.Answer.{numbers_of};
+
+    ghost from_gives = { λ why numbers. numbers ≡ numbers_of (Err why) };
+
+    fn from(why: Refusal) -> Numbers {
+        match why {
+            Refusal::NotUtf8 { place } => numbered(1, place),
+            Refusal::TooLong => numbered(2, 0),
+            Refusal::Uneven => numbered(3, 0),
+            Refusal::TooMany => numbered(4, 0),
+            Refusal::BadMatrix => numbered(5, 0),
+            Refusal::BadMode => numbered(6, 0),
+            Refusal::ShortRow => numbered(7, 0),
+            Refusal::BadKind { place } => numbered(8, place),
+            Refusal::OutOfOrder { place } => numbered(9, place),
+            Refusal::BadSpan { place } => numbered(10, place),
+            Refusal::BadId { place } => numbered(11, place),
+            Refusal::NoPath => numbered(12, 0),
+            Refusal::BrokenLink => numbered(13, 0),
+        }
+    }
+}
+
+impl From<Answer> for Numbers {
+    ghost use Rattle.std.specs.Prelude.{◌≡◌};
+    ghost use Rattle.ground.specs.Answer.{numbers_of};
+
+    ghost from_gives = { λ answer numbers. numbers ≡ numbers_of answer };
+
+    fn from(answer: Answer) -> Numbers {
+        match answer {
+            Ok(done) => Numbers::from(done),
+            Err(why) => Numbers::from(why),
         }
     }
 }

@@ -3,15 +3,13 @@ ghost use Rattle.std.specs.Prelude.{◌≡◌, ◌≤◌, pos};
 ghost use Rattle.ground.specs.Limits.{price_limit};
 ghost use Rattle.ground.specs.Charge.{charge, above, PricesFit};
 
-use crate::signed;
-
 // The most that a price and a threshold can be.
 pub const PRICE_LIMIT: u32 = 32_767;
 
 pub const THRESHOLD_LIMIT: u32 = 65_535;
 
 // Two thresholds and two prices: of kanji only words, and of others.
-#[derive(Clone, Copy)]
+#[derive(Clone, Copy, Debug, PartialEq, Eq)]
 pub struct Penalty {
     pub kanji_threshold: u16,
     pub kanji_price: u16,
@@ -19,10 +17,20 @@ pub struct Penalty {
     pub other_price: u16,
 }
 
-#[derive(Clone, Copy)]
+#[derive(Clone, Copy, Debug, PartialEq, Eq)]
 pub enum Mode {
     Normal,
     Decompose(Penalty),
+}
+
+// The mode as a caller names it: numbers, as they come from C. Its own, and the thresholds and prices of Decompose.
+#[derive(Clone, Copy)]
+pub struct ModeNumbers {
+    pub mode: u32,
+    pub kanji_threshold: u32,
+    pub kanji_price: u32,
+    pub other_threshold: u32,
+    pub other_price: u32,
 }
 
 fn above(len: u16, threshold: u16, price: u16) -> i32
@@ -30,7 +38,7 @@ fn above(len: u16, threshold: u16, price: u16) -> i32
     ensures { result ≡ pos (above len threshold price) }
 {
     if threshold < len {
-        signed::whole(((len - threshold) as u32) * (price as u32))
+        (u32::from(len - threshold) * u32::from(price)) as i32
     } else {
         0
     }

@@ -1,8 +1,6 @@
 // The word entry (document 01, piece 1): ten bytes to a struct, the constants of the lattice's entries, and the kinds.
 ghost use Rattle.std.specs.Prelude.{◌≡◌, ◌+◌, ◌*◌, ◌≤◌, ◌<◌, length};
-ghost use Rattle.ground.specs.Entry.{entry_of, entry_at, entry_part, entry_bytes, u16_at, u32_at, kind_of};
-
-use crate::signed;
+ghost use Rattle.ground.specs.Entry.{entry_of, entry_at, entry_part, entry_bytes, u16_at, u32_at, signed16};
 
 // The most candidates.
 pub const CANDIDATE_LIMIT: usize = 16_384;
@@ -16,18 +14,12 @@ pub struct Entry {
     pub right_id: u16,
 }
 
-fn wide(x: u8) -> u16
-    ensures { result ≡ x }
-{
-    x as u16
-}
-
 // Two bytes, the lower one first.
 pub fn two(bytes: &[u8], i: usize) -> u16
     requires { i + 1 < length bytes.now }
     ensures { result ≡ u16_at bytes.now i }
 {
-    wide(bytes[i]) + 256 * wide(bytes[i + 1])
+    u16::from_le_bytes([bytes[i], bytes[i + 1]])
 }
 
 // Four bytes, the lowest one first.
@@ -35,7 +27,15 @@ pub fn four(bytes: &[u8], i: usize) -> u32
     requires { i + 3 < length bytes.now }
     ensures { result ≡ u32_at bytes.now i }
 {
-    two(bytes, i) as u32 + 65536 * (two(bytes, i + 2) as u32)
+    u32::from_le_bytes([bytes[i], bytes[i + 1], bytes[i + 2], bytes[i + 3]])
+}
+
+// Two bytes, the lower one first, read with a sign.
+pub fn two_signed(bytes: &[u8], i: usize) -> i16
+    requires { i + 1 < length bytes.now }
+    ensures { result ≡ signed16 (u16_at bytes.now i) }
+{
+    two(bytes, i).cast_signed()
 }
 
 impl Entry {
@@ -43,19 +43,19 @@ impl Entry {
     pub const START: u16 = 0;
     // The start mark's right id and the end mark's left id.
     pub const MARK_ID: u16 = 0;
-    // The link that leads nowhere.
+    // The link that leads nowhere: a number, since the rows of links are C's.
     pub const NONE: u16 = 65_535;
     // How many bytes a word entry has.
     pub const BYTES: usize = 10;
 
-    // The entry of ten bytes.
+    // The entry of ten bytes. (No From: it asks for just ten.)
     fn of(bytes: &[u8]) -> Entry
         requires { length bytes.now ≡ entry_bytes }
         ensures { result ≡ entry_of bytes.now }
     {
         Entry {
             id: four(bytes, 0),
-            cost: signed::of_bits(two(bytes, 4)),
+            cost: two_signed(bytes, 4),
             left_id: two(bytes, 6),
             right_id: two(bytes, 8),
         }
@@ -88,24 +88,32 @@ impl Entry {
     }
 }
 
-#[derive(Clone, Copy)]
+// Where a word comes from.
+#[derive(Clone, Copy, Debug, PartialEq, Eq)]
 pub enum Kind {
     System,
     User,
     Unknown,
-    // No kind has this number.
-    Unnamed,
 }
 
-impl Kind {
-    pub fn of(number: u8) -> Kind
-        ensures { result ≡ kind_of number }
-    {
+// No kind has this number.
+#[derive(Clone, Copy, Debug, PartialEq, Eq)]
+pub struct UnnamedKind;
+
+impl TryFrom<u8> for Kind {
+    ghost use Rattle.std.specs.Prelude.{◌≡◌};
+    ghost use Rattle.ground.specs.Entry.{kind_of};
+
+    type Error = UnnamedKind;
+
+    ghost try_from_gives = { λ number kind. kind ≡ kind_of number };
+
+    fn try_from(number: u8) -> Result<Kind, UnnamedKind> {
         match number {
-            0 => Kind::System,
-            1 => Kind::User,
-            2 => Kind::Unknown,
-            _ => Kind::Unnamed,
+            0 => Ok(Kind::System),
+            1 => Ok(Kind::User),
+            2 => Ok(Kind::Unknown),
+            _ => Err(UnnamedKind),
         }
     }
 }

@@ -2,8 +2,8 @@
 #![tactic(auto)]
 
 pub mod answer;
+pub mod candidates;
 pub mod charge;
 pub mod entry;
 pub mod matrix;
-pub mod signed;
 pub mod text;

@@ -6,7 +6,7 @@ ghost use Rattle.ground.specs.Text.{leads, lead_row, may_follow, letter_of, lett
 ghost use Rattle.ground.specs.Characters.{checked, Sound, outcome};
 ghost use Rattle.ground.specs.Filling.{at_least, size_by_lead, letter_of_size, in_block, kanji_bit, is_set, kanji_bits, counted};
 
-use crate::answer::Answer;
+use crate::answer::{Answer, Done, Refusal};
 
 // The most bytes and the most characters of a text.
 pub const TEXT_LIMIT: usize = 16_384;
@@ -37,9 +37,7 @@ const COMMON: Lead = Lead {
     size: 3,
 };
 
-const LEAD_ROWS: usize = 9;
-
-const LEADS: [Lead; LEAD_ROWS] = [
+const LEADS: [Lead; 9] = [
     Lead {
         low: 0x00,
         high: 0x7f,
@@ -99,12 +97,6 @@ const LEADS: [Lead; LEAD_ROWS] = [
     },
 ];
 
-#[derive(Clone, Copy)]
-pub enum LeadFound {
-    Row(Lead),
-    NoRow,
-}
-
 // A letter is one of document 01's characters: its length in bytes and its code point.
 #[derive(Clone, Copy)]
 pub struct Letter {
@@ -112,37 +104,23 @@ pub struct Letter {
     pub code: u32,
 }
 
-// What the bytes begin with.
-#[derive(Clone, Copy)]
-pub enum Decoded {
-    Whole(Letter),
-    IllFormed,
-}
-
 // Whether a byte lies in a range, both ends in it.
 fn within(low: u8, high: u8, byte: u8) -> bool
     ensures { result ≡ Rattle.ground.specs.Text.within low high byte }
 {
-    if high < byte {
-        return false;
-    }
-    low <= byte
+    (low..=high).contains(&byte)
 }
 
 // The row that has the byte as a lead byte.
-fn lead_row(byte: u8) -> LeadFound
+fn lead_row(byte: u8) -> Option<Lead>
     ensures { result ≡ lead_row leads byte }
 {
-    let rows = LEADS;
-    let mut i = 0;
-    while i < LEAD_ROWS {
-        let row = rows[i];
+    for row in LEADS {
         if within(row.low, row.high, byte) {
-            return LeadFound::Row(row);
+            return Some(row);
         }
-        i += 1;
     }
-    LeadFound::NoRow
+    None
 }
 
 // Whether what stands behind the lead byte may follow it.
@@ -169,18 +147,12 @@ fn may_follow(row: Lead, bytes: &[u8]) -> bool
     within(LATER_LOW, LATER_HIGH, bytes[3])
 }
 
-fn wide(x: u8) -> u32
-    ensures { result ≡ x }
-{
-    x as u32
-}
-
 // The code so far with the six bits of one more byte.
 fn with_six(code: u32, byte: u8) -> u32
     requires { code < 65536 }
     ensures { result ≡ code * 64 + byte % 64 }
 {
-    code * 64 + wide(byte) % 64
+    code * 64 + u32::from(byte) % 64
 }
 
 // The code point of a character of so many bytes.
@@ -188,7 +160,7 @@ fn code_of(bytes: &[u8], size: usize) -> u32
     requires { (1 ≤ size) × (size ≤ 4) × (size ≤ length bytes.now) }
     ensures { result ≡ (letter_of_size bytes.now size).code }
 {
-    let lead = wide(bytes[0]);
+    let lead = u32::from(bytes[0]);
     if size == 1 {
         return lead;
     }
@@ -213,33 +185,29 @@ fn letter_of_size(bytes: &[u8], size: usize) -> Letter
 }
 
 // The character of a row that the bytes begin with.
-fn letter_by(row: Lead, bytes: &[u8]) -> Decoded
+fn letter_by(row: Lead, bytes: &[u8]) -> Option<Letter>
     requires { (1 ≤ row.size) × (row.size ≤ 4) × (0 < length bytes.now) }
     ensures { result ≡ letter_of row (get_or bytes.now 0 0) (take (row.size - 1) (drop 1 bytes.now)) }
 {
     let size = row.size;
     if bytes.len() < size {
-        return Decoded::IllFormed;
+        return None;
     }
     if !may_follow(row, bytes) {
-        return Decoded::IllFormed;
+        return None;
     }
-    Decoded::Whole(letter_of_size(bytes, size))
+    Some(letter_of_size(bytes, size))
 }
 
-// The character that stands at a place of the text.
-fn letter_at(text: &[u8], at: usize) -> Decoded
-    requires { at < length text.now }
-    ensures { result ≡ letter_at (drop at text.now) }
+// The character that the bytes begin with, if they begin with a whole well-formed one.
+fn letter_at(bytes: &[u8]) -> Option<Letter>
+    ensures { result ≡ letter_at bytes.now }
 {
-    let lead = text[at];
+    let lead = *bytes.first()?;
     if within(COMMON.low, COMMON.high, lead) {
-        return letter_by(COMMON, &text[at..]);
+        return letter_by(COMMON, bytes);
     }
-    match lead_row(lead) {
-        LeadFound::Row(row) => letter_by(row, &text[at..]),
-        LeadFound::NoRow => Decoded::IllFormed,
-    }
+    letter_by(lead_row(lead)?, bytes)
 }
 
 // How many whole well-formed characters the text begins with, and how many bytes they take.
@@ -252,49 +220,43 @@ pub struct Measured {
 fn measure(text: &[u8]) -> Measured
     ensures { (result.n ≡ length (letters text.now)) × (result.bytes ≡ sizes (letters text.now)) }
 {
-    let mut at = 0;
+    let mut rest = text;
     let mut n = 0;
-    while at < text.len() {
-        let Decoded::Whole(letter) = letter_at(text, at) else {
-            return Measured { n, bytes: at };
-        };
-        at += letter.size;
+    while let Some(letter) = letter_at(rest) {
+        let (_, behind) = rest.split_at(letter.size);
+        rest = behind;
         n += 1;
     }
-    Measured { n, bytes: at }
+    Measured {
+        n,
+        bytes: text.len() - rest.len(),
+    }
 }
 
-// What the tests of a text tell.
-#[derive(Clone, Copy)]
-pub enum Checked {
-    Passed { n: usize },
-    Refused(Answer),
-}
-
-// The tests of a text in document 01's order. Nothing is written.
-pub fn check(text: &[u8]) -> Checked
+// The tests of a text in document 01's order, and its number of characters. Nothing is written.
+pub fn check(text: &[u8]) -> Result<usize, Refusal>
     ensures { result ≡ checked text.now }
 {
     if TEXT_LIMIT < text.len() {
-        return Checked::Refused(Answer::TooLong);
+        return Err(Refusal::TooLong);
     }
     let m = measure(text);
     if m.bytes < text.len() {
-        return Checked::Refused(Answer::NotUtf8 {
+        return Err(Refusal::NotUtf8 {
             place: m.bytes as u32,
         });
     }
     if CHARACTER_LIMIT < m.n {
-        return Checked::Refused(Answer::TooLong);
+        return Err(Refusal::TooLong);
     }
-    Checked::Passed { n: m.n }
+    Ok(m.n)
 }
 
 // 1 from `low` on, and 0 below.
 fn at_least(low: u32, x: u32) -> u16
     ensures { (result ≡ at_least low x) × (result ≤ 1) }
 {
-    if low <= x { 1 } else { 0 }
+    u16::from(low <= x)
 }
 
 // 1 from `low` to `high`, and 0 elsewhere.
@@ -307,7 +269,7 @@ fn in_block(low: u32, high: u32, code: u32) -> u16
     at_least(low, code)
 }
 
-// 1 for a kanji and 0 for another character.
+// 1 for a kanji and 0 for another character: the run row holds it until the runs are counted.
 fn kanji_bit(code: u32) -> u16
     ensures { result ≡ kanji_bit code }
 {
@@ -346,33 +308,31 @@ fn step_by_lead(bytes: &[u8]) -> Step
     }
 }
 
-// The step at a place where a character is known to stand.
+// The step at a place where a character is known to stand. (The place is the offset that is written, so it goes beside the text.)
 fn known_step(text: &[u8], at: usize) -> Step
-    requires { (at < length text.now) × (letter_at (drop at text.now) ≡ Decoded.IllFormed → ⊥) }
-    ensures letter { letter_at (drop at text.now) ≡ Decoded.Whole (letter_of_size (drop at text.now) result.size) }
+    requires { (at < length text.now) × (letter_at (drop at text.now) ≡ None → ⊥) }
+    ensures letter { letter_at (drop at text.now) ≡ Some (letter_of_size (drop at text.now) result.size) }
     ensures bit { result.bit ≡ kanji_bit (letter_of_size (drop at text.now) result.size).code }
 {
     step_by_lead(&text[at..])
 }
 
 // The offset row, and in the run row 1 for each kanji.
-fn fill_bits(text: &[u8], offset: &mut [u32], run: &mut [u16])
-    requires sound { Sound text.now (length (letters text.now)) }
-    requires room { (length (letters text.now) < length offset.old) × (length (letters text.now) < length run.old) }
+fn fill_bits(text: &[u8], n: usize, offset: &mut [u32], run: &mut [u16])
+    requires sound { Sound text.now n }
+    requires room { (n < length offset.old) × (n < length run.old) }
     ensures offset_after { offset.new ≡ over (offsets (letters text.now)) offset.old }
     ensures run_after { run.new ≡ over (kanji_bits (letters text.now)) run.old }
 {
     let mut at = 0;
-    let mut i = 0;
-    while at < text.len() {
+    for i in 0..n {
         let step = known_step(text, at);
         offset[i] = at as u32;
         run[i] = step.bit;
         at += step.size;
-        i += 1;
     }
-    offset[i] = at as u32;
-    run[i] = 0;
+    offset[n] = at as u32;
+    run[n] = 0;
 }
 
 // The run at a place, by its kanji bit and the run behind it.
@@ -383,14 +343,12 @@ fn run_of(bit: u16, behind: u16) -> u16
     if bit == 0 { 0 } else { 1 + behind }
 }
 
-// The first n places of the row, kanji bits, made runs from the right.
+// The first n places of the row, kanji bits, made runs from the right. (C may lend a row that is longer: so n goes beside it, here and below.)
 fn count_runs(run: &mut [u16], n: usize)
     requires { (n < length run.old) × (n ≤ character_limit) × (get_or run.old n 0 ≡ 0) }
     ensures { run.new ≡ counted (take n run.old) (drop n run.old) }
 {
-    let mut i = n;
-    while 0 < i {
-        i -= 1;
+    for i in (0..n).rev() {
         run[i] = run_of(run[i], run[i + 1]);
     }
 }
@@ -402,7 +360,7 @@ pub fn fill(text: &[u8], n: usize, offset: &mut [u32], run: &mut [u16])
     ensures offset_after { offset.new ≡ over (offsets (letters text.now)) offset.old }
     ensures run_after { run.new ≡ over (runs (letters text.now)) run.old }
 {
-    fill_bits(text, offset, run);
+    fill_bits(text, n, offset, run);
     count_runs(run, n);
 }
 
@@ -411,20 +369,16 @@ pub fn characters(text: &[u8], offset: &mut [u32], run: &mut [u16]) -> Answer
     ensures { outcome result offset.new run.new
         ≡ Rattle.ground.specs.Characters.characters text.now offset.old run.old }
 {
-    match check(text) {
-        Checked::Refused(answer) => answer,
-        Checked::Passed { n } => {
-            if offset.len() <= n {
-                return Answer::ShortRow;
-            }
-            if run.len() <= n {
-                return Answer::ShortRow;
-            }
-            fill(text, n, offset, run);
-            Answer::Done {
-                count: n as u32,
-                cost: 0,
-            }
-        }
+    let n = check(text)?;
+    if offset.len() <= n {
+        return Err(Refusal::ShortRow);
     }
+    if run.len() <= n {
+        return Err(Refusal::ShortRow);
+    }
+    fill(text, n, offset, run);
+    Ok(Done {
+        count: n as u32,
+        cost: 0,
+    })
 }

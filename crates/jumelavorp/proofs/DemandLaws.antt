@@ -4,7 +4,7 @@ use mathlib.Core.Path.{◌≡◌, refl, sym, ap, ◌∙◌, subst}
 use mathlib.Core.Logic.{◌↔◌, ◌⊎◌, ⊎_elim}
 use mathlib.Core.Bool.{Bool, true, false, true≢false}
 use mathlib.Core.List.{List, [], ◌∷◌, map, flat_map}
-use mathlib.Core.Option.{Option, none, some, some-injective}
+use Rattle.std.specs.Prelude.{Option, None, Some, Err}
 use native.Mathlib.Omega.{arith}
 use lib.ListN.{length, get_or, length-map}
 use lib.IntN.{ℤ, pos, neg_ℤ}
@@ -12,9 +12,9 @@ use borrow.Author.Tests.{le-ltb}
 use Rattle.ground.specs.Entry.{entry_at, none_link}
 use Rattle.ground.specs.Rows.{over}
 use Rattle.ground.specs.Text.{letters, offsets}
-use Rattle.ground.specs.Answer.{numbers_of}
-use Rattle.ground.specs.declared.answer.Answer.{Answer}
-use Rattle.ground.specs.declared.answer.Answer.TheVariants.{Done, NoPath}
+use Rattle.ground.specs.Answer.{Answer, work_done, numbers_of}
+use Rattle.ground.specs.declared.answer.Refusal.{Refusal}
+use Rattle.ground.specs.declared.answer.Refusal.TheVariants.{NoPath}
 use Rattle.ground.specs.declared.answer.Numbers.{Numbers}
 use Rattle.ground.proofs.RowLaws.{offsets_first, offsets_end, offsets_rise}
 use Rattle.lattice.specs.Words.{candidate}
@@ -37,7 +37,7 @@ use Rattle.segmenter.proofs.JobLaws.{accepted, answers}
 use Rattle.jumelavorp.specs.Promise.{Segment}
 use Rattle.jumelavorp.specs.Demand3.{byte_at, bytes_of, Tells, Returned, Demand3}
 
-module _ (j : Job) (r : JobRows) (e : refused j r ≡ none) (ranged : Ranged j r) where
+module _ (j : Job) (r : JobRows) (e : refused j r ≡ None) (ranged : Ranged j r) where
   -- The answer and the rows that the definition gives.
   abbrev answer : Answer
   answer = (segment j r).answer
@@ -66,8 +66,8 @@ module _ (j : Job) (r : JobRows) (e : refused j r ≡ none) (ranged : Ranged j r
 
   -- ---- 0 or 12
   data Ending : Type 0 where
-    path : (count : ℕ) (cost : ℤ) → answer ≡ Done count cost → Reached after.left (suc c) → Ending
-    no_path_lem : answer ≡ NoPath → (Reached after.left (suc c) → ⊥) → Ending
+    path : (count : ℕ) (cost : ℤ) → answer ≡ work_done count cost → Reached after.left (suc c) → Ending
+    no_path_lem : answer ≡ Err NoPath → (Reached after.left (suc c) → ⊥) → Ending
 
   ending : Ending
   ending = go (end_mark j).reached refl
@@ -135,7 +135,7 @@ module _ (j : Job) (r : JobRows) (e : refused j r ≡ none) (ranged : Ranged j r
       go (path count cost q reached) =
           let (words, w) = path_walked n (given_of j) ok after.left left_held reached in
           let (found, walked, many, written) = told.words count cost q in
-          let same : found ≡ words = some-injective found words (sym walked ∙ w.walk) in (
+          let same : found ≡ words = (let e : Some found ≡ Some words = sym walked ∙ w.walk in cc) in (
             words,
             record {
               best = w.best;
@@ -186,7 +186,7 @@ module _ (j : Job) (r : JobRows) (e : refused j r ≡ none) (ranged : Ranged j r
       }
 
 -- What meets the promise, of a job that passes the tests, has demand 3.
-pub demand3 : (j : Job) (r : JobRows) (numbers : Numbers) (after : JobRows) → Segment j r numbers after → refused j r ≡ none → Demand3 j numbers after
+pub demand3 : (j : Job) (r : JobRows) (numbers : Numbers) (after : JobRows) → Segment j r numbers after → refused j r ≡ None → Demand3 j numbers after
 demand3 j r numbers after p e =
     subst (λ (numbers : Numbers). Demand3 j numbers after) (sym p.answers)
     (subst (λ (after : JobRows). Demand3 j (numbers_of (segment j r).answer) after) (sym p.rows) (of_definition j r e p.ranged))
@@ -196,12 +196,12 @@ pub demand3_answered : (j : Job) (r : JobRows) (numbers : Numbers) (after : JobR
     → (numbers.number ≡ 0) ⊎ (numbers.number ≡ 12) → Demand3 j numbers after
 demand3_answered j r numbers after p answered = demand3 j r numbers after p (go (refused j r) refl)
   where
-    go : (o : Option Answer) → refused j r ≡ o → o ≡ none
-    go none e = refl
-    go (some answer) e =
-        let t = tested j r answer e in
-        let number : numbers.number ≡ (numbers_of answer).number =
-        ap (λ (x : Numbers). x.number) p.answers ∙ ap (λ (o : Outcome). (numbers_of o.answer).number) ((answers j r).first_test answer e) in
+    go : (o : Option Refusal) → refused j r ≡ o → o ≡ None
+    go None e = refl
+    go (Some why) e =
+        let t = tested j r why e in
+        let number : numbers.number ≡ (numbers_of (Err why)).number =
+        ap (λ (x : Numbers). x.number) p.answers ∙ ap (λ (o : Outcome). (numbers_of o.answer).number) ((answers j r).first_test why e) in
         absurd (⊎_elim (λ q. omega (arith, t.low)) (λ q. omega (arith, t.high)) answered)
 
 -- ---- what it rules out

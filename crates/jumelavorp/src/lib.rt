@@ -5,16 +5,22 @@
 ghost use Rattle.checks.specs.Job.{job, job_rows};
 ghost use Rattle.jumelavorp.specs.Promise.{Characters, Segment, WalkBack};
 
+use checks::job::Job;
 use ground::answer::Numbers;
+use ground::candidates::Candidates;
+use ground::charge::ModeNumbers;
+use ground::matrix::Matrix;
 use ground::text;
+use lattice::rows::Rows;
 use segmenter::segment;
 use walk::walk_back;
+use walk::words::WordRows;
 
 // The character table alone.
 pub fn jumelavorp_characters(text: &[u8], offset: &mut [u32], run: &mut [u16]) -> Numbers
     ensures { Characters text.now offset.old run.old result offset.new run.new }
 {
-    text::characters(text, offset, run).numbers()
+    Numbers::from(text::characters(text, offset, run))
 }
 
 // The whole job.
@@ -57,33 +63,41 @@ pub fn jumelavorp_segment(
         offset.new run.new first.new last.new left.new cost.new next.new
         word_offset.new word_id.new word_kind.new) }
 {
-    segment::segment(
+    let job = Job {
         text,
-        start,
-        end,
-        kind,
-        extra,
-        entry,
-        height,
-        width,
-        matrix,
-        mode,
-        kanji_threshold,
-        kanji_price,
-        other_threshold,
-        other_price,
-        offset,
-        run,
+        candidates: Candidates {
+            start,
+            end,
+            kind,
+            extra,
+            entry,
+        },
+        matrix: Matrix {
+            height,
+            width,
+            values: matrix,
+        },
+        mode: ModeNumbers {
+            mode,
+            kanji_threshold,
+            kanji_price,
+            other_threshold,
+            other_price,
+        },
+    };
+    let mut lattice = Rows {
         first,
         last,
         left,
         cost,
         next,
-        word_offset,
-        word_id,
-        word_kind,
-    )
-    .numbers()
+    };
+    let mut words = WordRows {
+        offset: word_offset,
+        id: word_id,
+        kind: word_kind,
+    };
+    Numbers::from(segment::segment(&job, offset, run, &mut lattice, &mut words))
 }
 
 // The walk back alone.
@@ -96,5 +110,5 @@ pub fn jumelavorp_walk_back(
 ) -> Numbers
     ensures { WalkBack start.now end.now left.now n word.old result word.new }
 {
-    walk_back::walk_back(start, end, left, n, word).numbers()
+    Numbers::from(walk_back::walk_back(start, end, left, n, word))
 }

@@ -1,24 +1,25 @@
 -- Rows that hold a list of entries hold, after one more is written, the list with it at its end. Assumes nothing.
 use Prim.Native.Nat.{ℕ, zero, suc, ◌-◌, ◌≤◌, ◌<◌}
+use Rattle.std.proofs.Common.{Option, None, Some}
 use mathlib.Core.Path.{◌≡◌, refl, sym, ap, ◌∙◌}
-use mathlib.Core.Bool.{true, false, cond}
+use mathlib.Core.Bool.{Bool, true, false, cond}
 use mathlib.Core.List.{List, [], ◌∷◌, ◌++◌, map, map-append}
-use mathlib.Core.Option.{Option, none, some, or_else}
 use native.Mathlib.Omega.{arith}
 use native.Mathlib.Decide.{ℕ_discrete}
 use native.Mathlib.Nat.{zero-add}
 use lib.ListN.{length, get_or, set, replicate, length-map, length-append}
-use lib.Seq.{set-append_left}
+use lib.Seq.{set-append_left, set-set}
+use Rattle.std.proofs.lemmas.List.{set-get_or}
 use lib.IntN.{pos}
 use lib.Dec.{eqb}
-use borrow.Author.Tests.{eq-eqb, ne_eqb}
+use borrow.Author.Tests.{eqb-true, eq-eqb, ne_eqb}
 use Rattle.ground.specs.Entry.{none_link}
 use Rattle.ground.specs.Rows.{over}
 use Rattle.ground.proofs.RowLaws.{over_length}
 use Rattle.lattice.specs.Words.{Word, up_from}
 use Rattle.lattice.specs.Lattice.{LatticeEntry, start_mark, ends_at, entry_by}
 use Rattle.lattice.specs.Rows.{link_of, first_at, last_at, firsts, lasts, lefts, costs, nexts_from, nexts, LatticeRows, rows, Filled, Room}
-use Rattle.lattice.specs.Inner.{taken_of, linked_first, linked_last, before_of, linked_next, entered}
+use Rattle.lattice.specs.Inner.{linked, before_of, entered}
 use Rattle.lattice.specs.declared.relaxation.Offer.{Offer}
 use Rattle.lattice.proofs.LatticeLaws.{up_length}
 use Rattle.lattice.proofs.OfferLaws.{ends_show}
@@ -108,8 +109,8 @@ module _ (n : ℕ) (es : List LatticeEntry) (e : LatticeEntry) where
     last_elsewhere q z = ap link_of (last_past e q 0 es (elsewhere p q e refl z))
 
     -- the first stays, where one ended there
-    firsts_kept : (l : ℕ) → last_at p 0 es ≡ some l → firsts n more ≡ firsts n es
-    unfolding firsts or_else
+    firsts_kept : (l : ℕ) → last_at p 0 es ≡ Some l → firsts n more ≡ firsts n es
+    unfolding firsts
     firsts_kept l h =
         table_same (λ (q : ℕ). link_of (first_at q 0 more)) (λ (q : ℕ). link_of (first_at q 0 es)) 0 (suc n)
         (λ q _. go q (ℕ_discrete q p))
@@ -122,8 +123,8 @@ module _ (n : ℕ) (es : List LatticeEntry) (e : LatticeEntry) where
         go q (no z) = first_elsewhere q z
 
     -- it is the first, where none did
-    firsts_new : last_at p 0 es ≡ none → firsts n more ≡ set (firsts n es) p x
-    unfolding firsts or_else
+    firsts_new : last_at p 0 es ≡ None → firsts n more ≡ set (firsts n es) p x
+    unfolding firsts
     firsts_new h =
         table_set (λ (q : ℕ). link_of (first_at q 0 more)) (λ (q : ℕ). link_of (first_at q 0 es)) (suc n) p x (omega arith)
         first_elsewhere
@@ -131,7 +132,7 @@ module _ (n : ℕ) (es : List LatticeEntry) (e : LatticeEntry) where
 
     -- it is the last
     lasts_new : lasts n more ≡ set (lasts n es) p x
-    unfolding lasts or_else
+    unfolding lasts
     lasts_new =
         table_set (λ (q : ℕ). link_of (last_at q 0 more)) (λ (q : ℕ). link_of (last_at q 0 es)) (suc n) p x (omega arith)
         last_elsewhere
@@ -154,7 +155,7 @@ module _ (n : ℕ) (es : List LatticeEntry) (e : LatticeEntry) where
 
     -- an entry that is not reached is linked nowhere
     pub fill_unreached : e.reached ≡ false
-        → Filled n more old (rows t.first t.last (set t.left x e.left) (set t.cost x e.cost) (set t.next x none_link))
+        → Filled n more old (record t { left = set t.left x e.left; cost = set t.cost x e.cost; next = set t.next x none_link })
     fill_unreached r =
         record {
           first = rw (firsts_unreached r) h.first;
@@ -173,13 +174,7 @@ module _ (n : ℕ) (es : List LatticeEntry) (e : LatticeEntry) where
 
     -- an entry that is reached is linked
     pub fill_reached : e.reached ≡ true → p ≤ n
-        → Filled n more old
-        (rows
-        (linked_first x p t.last t.first)
-        (linked_last x p t.last)
-        (set t.left x e.left)
-        (set t.cost x e.cost)
-        (linked_next x p t.last t.next))
+        → Filled n more old (linked x p (record t { left = set t.left x e.left; cost = set t.cost x e.cost }))
     fill_reached r inside =
         record {
           first = rw (last_row inside) (first (last_at p 0 es) refl);
@@ -192,28 +187,57 @@ module _ (n : ℕ) (es : List LatticeEntry) (e : LatticeEntry) where
           next = rw (last_row inside) (next (last_at p 0 es) refl);
         }
       where
-        apart : (l : ℕ) → last_at p 0 es ≡ some l → l < x
+        apart : (l : ℕ) → last_at p 0 es ≡ Some l → l < x
         apart l q = let z = (last_listed p 0 es l q).high in omega arith
 
         first : (m : Option ℕ) → last_at p 0 es ≡ m
             → cond (eqb (link_of m) none_link) (set t.first p x) t.first ≡ over (firsts n more) old.first
-        first none q =
+        first None q =
             ap (λ (row : List ℕ). set row p x) h.first
             ∙ over_set (firsts n es) old.first p x (omega (arith, firsts_length n es))
             ∙ rw (firsts_new r inside q)
-        first (some l) q =
+        first (Some l) q =
             rw (ne_eqb l none_link (λ z. omega (arith, apart l q)), firsts_kept r inside l q) h.first
 
         next : (m : Option ℕ) → last_at p 0 es ≡ m
             → cond (eqb (before_of x (link_of m)) x) (set t.next x none_link) (set (set t.next x none_link) (before_of x (link_of m)) x)
             ≡ over (nexts more) old.next
-        next none q = rw (eq-eqb x x refl) (filled_next ∙ rw (nexts_reached r inside, q))
-        next (some l) q =
+        next None q = rw (eq-eqb x x refl) (filled_next ∙ rw (nexts_reached r inside, q))
+        next (Some l) q =
             let lower : l < length (nexts es) = omega (arith, apart l q, nexts_length 0 es) in
             let same : l - 0 ≡ l = omega arith in
             rw (ne_eqb l none_link (λ z. omega (arith, apart l q)), ne_eqb l x (λ z. omega (arith, apart l q)), filled_next, nexts_reached r inside, q, same)
             (over_set (nexts es ++ (none_link ∷ [])) old.next l x (rw length-append (omega arith))
             ∙ rw (set-append_left (nexts es) (none_link ∷ []) l x lower))
+
+-- ---- rows
+
+-- Rows are equal, one by one.
+pub rows_equal : {a b : LatticeRows} → a.first ≡ b.first → a.last ≡ b.last → a.left ≡ b.left → a.cost ≡ b.cost → a.next ≡ b.next → a ≡ b
+rows_equal first last left cost next = λ i. record { first = first i; last = last i; left = left i; cost = cost i; next = next i }
+
+-- What is written when an entry is linked, by two tests.
+pub linked_is : (x position : ℕ) (r : LatticeRows)
+    → let so_far = get_or r.last position 0 in
+    let alone = eqb so_far none_link in
+    let before = before_of x so_far in
+    rows (set r.first position (cond alone x (get_or r.first position 0))) (set r.last position x) r.left r.cost (set (set r.next x none_link) before (cond (eqb before x) none_link x))
+    ≡ linked x position r
+linked_is x position r = rows_equal (first (eqb so_far none_link)) refl refl refl (next (before_of x so_far))
+  where
+    so_far : ℕ
+    so_far = get_or r.last position 0
+
+    first : (t : Bool) → set r.first position (cond t x (get_or r.first position 0)) ≡ cond t (set r.first position x) r.first
+    first true = refl
+    first false = set-get_or r.first position 0
+
+    next : (b : ℕ) → set (set r.next x none_link) b (cond (eqb b x) none_link x) ≡ cond (eqb b x) (set r.next x none_link) (set (set r.next x none_link) b x)
+    next b = go (eqb b x) refl
+      where
+        go : (t : Bool) → eqb b x ≡ t → set (set r.next x none_link) b (cond t none_link x) ≡ cond t (set r.next x none_link) (set (set r.next x none_link) b x)
+        go true q = rw (eqb-true b x q) (set-set r.next x none_link none_link)
+        go false q = refl
 
 -- ---- none, and one by the offer that it takes
 
@@ -232,17 +256,16 @@ lasts_none n = all_none 0 (suc n)
 
 -- Rows whose positions are cleared hold no entries.
 pub fill_none : (n : ℕ) (old : LatticeRows)
-    → Filled n [] old
-    (rows (over (replicate (suc n) none_link) old.first) (over (replicate (suc n) none_link) old.last) old.left old.cost old.next)
+    → let none_yet = replicate (suc n) none_link in Filled n [] old (record old { first = over none_yet old.first; last = over none_yet old.last })
 unfolding lefts costs nexts_from
 fill_none n old = record { first = rw (firsts_none n); last = rw (lasts_none n); left = refl; cost = refl; next = refl }
 
 -- A word's entry is written by the offer that it takes.
 pub fill_entered : (n : ℕ) (es : List LatticeEntry) (w : Word) (m : Option Offer) (old t : LatticeRows)
     → Filled n es old t → Room n (suc (length es)) old → length es < none_link → w.end ≤ n
-    → Filled n (es ++ (entry_by w m ∷ [])) old (entered (length es) w.end (taken_of m) w.own_cost t)
-fill_entered n es w none old t h room few inside = fill_unreached n es (entry_by w none) old t h room few refl
-fill_entered n es w (some o) old t h room few inside = fill_reached n es (entry_by w (some o)) old t h room few refl inside
+    → Filled n (es ++ (entry_by w m ∷ [])) old (entered (length es) w.end m w.own_cost t)
+fill_entered n es w None old t h room few inside = fill_unreached n es (entry_by w None) old t h room few refl
+fill_entered n es w (Some o) old t h room few inside = fill_reached n es (entry_by w (Some o)) old t h room few refl inside
 
 -- ---- one filling after another
 
@@ -276,10 +299,9 @@ fill_held n es a b f =
 
 -- Rows whose positions are cleared hold the start mark, once it is written.
 pub fill_start : (n : ℕ) (old : LatticeRows) → Room n 1 old
-    → let first = over (replicate (suc n) none_link) old.first in
-    let last = over (replicate (suc n) none_link) old.last in
+    → let none_yet = replicate (suc n) none_link in
     Filled n (start_mark ∷ []) old
-    (rows (linked_first 0 0 last first) (linked_last 0 0 last) (set old.left 0 none_link) (set old.cost 0 (pos 0)) (linked_next 0 0 last old.next))
+    (linked 0 0 (rows (over none_yet old.first) (over none_yet old.last) (set old.left 0 none_link) (set old.cost 0 (pos 0)) old.next))
 fill_start n old room = fill_reached n [] start_mark old _ (fill_none n old) room (omega arith) refl (omega arith)
 
 -- ---- lengths are kept
@@ -312,10 +334,6 @@ room_kept n m a b room s =
       cost = rw s.cost room.cost;
       next = rw s.next room.next;
     }
-
--- Rows are equal, one by one.
-pub rows_equal : {a b : LatticeRows} → a.first ≡ b.first → a.last ≡ b.last → a.left ≡ b.left → a.cost ≡ b.cost → a.next ≡ b.next → a ≡ b
-rows_equal first last left cost next = λ i. record { first = first i; last = last i; left = left i; cost = cost i; next = next i }
 
 -- Two fillings of the same rows with the same entries are equal: the forward pass leaves one content of every row.
 pub filled_unique : (n : ℕ) (es : List LatticeEntry) (old a b : LatticeRows) → Filled n es old a → Filled n es old b → a ≡ b

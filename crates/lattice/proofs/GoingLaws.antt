@@ -1,10 +1,11 @@
 -- The relaxation, over any list of entries: what its loop holds, how it begins, what a turn does and what it ends with; what the rows tell of the
 -- entry of a turn; and what is taken at the start. Assumes nothing.
 use Prim.Native.Nat.{ℕ, zero, suc, ◌+◌, ◌-◌, ◌≤◌, ◌<◌}
+use Rattle.std.proofs.Common.{Option, None, Some}
+use Rattle.std.specs.Option.{option_or}
 use mathlib.Core.Path.{◌≡◌, refl, sym, ap, ◌∙◌, subst}
 use mathlib.Core.Bool.{Bool, true, false, cond, true≢false}
 use mathlib.Core.List.{List, [], ◌∷◌}
-use mathlib.Core.Option.{Option, none, some, or_else}
 use native.Mathlib.Omega.{arith}
 use native.Mathlib.Nat.{zero-add}
 use lib.ListN.{length, get_or, drop, length-drop}
@@ -12,10 +13,9 @@ use lib.Seq.{get_or-drop, drop-drop}
 use lib.IntN.{ℤ, +ℤ_idl, +ℤ_idr}
 use Rattle.ground.specs.Entry.{mark_id, none_link}
 use Rattle.ground.specs.Matrix.{value_in}
-use Rattle.ground.specs.declared.charge.Mode.{Mode}
-use Rattle.lattice.specs.Words.{Word}
+use Rattle.lattice.specs.Words.{Word, Given}
 use Rattle.lattice.specs.Lattice.{LatticeEntry, mark, unreached, entry_numbered, start_mark, ends_at, offer, offers, against, least, cheaper, taken}
-use Rattle.lattice.specs.Rows.{link_of, first_at, last_at, nexts}
+use Rattle.lattice.specs.Rows.{LatticeRows, link_of, first_at, last_at, nexts}
 use Rattle.lattice.specs.Inner.{in_row, offer_of, Offering, Near, Held}
 use Rattle.lattice.specs.declared.relaxation.Offer.{Offer}
 use Rattle.lattice.proofs.LeastLaws.{against_against, cheaper_fair}
@@ -30,7 +30,7 @@ pub record Going (joints : ℕ → ℕ → ℤ) (w : Word) (es : List LatticeEnt
   pub k : ℕ
   pub within : k ≤ length es
   pub next : following ≡ link_of (first_at w.start k (drop k es))
-  pub all : some (against cheaper held (least cheaper (offers joints w k (drop k es)))) ≡ taken joints es w
+  pub all : Some (against cheaper held (least cheaper (offers joints w k (drop k es)))) ≡ taken joints es w
 
 -- So it is behind entry f, which made one.
 pub record Visited (joints : ℕ → ℕ → ℤ) (w : Word) (es : List LatticeEntry) (held : Offer) (f : ℕ) : Type 0 where
@@ -62,7 +62,7 @@ module _ (joints : ℕ → ℕ → ℤ) (w : Word) (es : List LatticeEntry) wher
 
   -- A turn takes one more offer.
   pub again : (held : Offer) (f : ℕ) (g : Going joints w es held f) → Turn g.k f
-      → Visited joints w es (against cheaper held (some (offer joints w f (entry_numbered es f)))) f
+      → Visited joints w es (against cheaper held (Some (offer joints w f (entry_numbered es f)))) f
   unfolding least
   again held f g t =
       let o = offer joints w f (entry_numbered es f) in
@@ -76,7 +76,7 @@ module _ (joints : ℕ → ℕ → ℤ) (w : Word) (es : List LatticeEntry) wher
               k = suc f;
               within = t.inside;
               next = t.next;
-              all = ap some (sym (against_against cheaper cheaper_fair held o others)) ∙ (rw t.more at g.all);
+              all = ap Some (sym (against_against cheaper cheaper_fair held o others)) ∙ (rw t.more at g.all);
             };
       }
 
@@ -86,7 +86,7 @@ module _ (joints : ℕ → ℕ → ℤ) (w : Word) (es : List LatticeEntry) wher
     rest k h = simp length-drop (omega arith)
 
     -- Where the first link is none, no offer is taken.
-    pub untaken : none_link ≡ link_of (first_at w.start 0 es) → taken joints es w ≡ none
+    pub untaken : none_link ≡ link_of (first_at w.start 0 es) → taken joints es w ≡ None
     unfolding least
     untaken q = rw (dry joints w 0 es (omega arith) q)
 
@@ -132,7 +132,6 @@ module _ (joints : ℕ → ℕ → ℤ) (w : Word) (es : List LatticeEntry) wher
       pub more : (f ≡ link_of (last_at w.start 0 es) → ⊥) → get_or (nexts es) f 0 ≡ none_link → ⊥
 
     pub ends : (f : ℕ) → f < length es → Meets w es f → Ends f
-    unfolding or_else
     ends f inside meets = go (last_at w.start (suc f) behind) refl
       where
         behind : List LatticeEntry
@@ -142,29 +141,29 @@ module _ (joints : ℕ → ℕ → ℤ) (w : Word) (es : List LatticeEntry) wher
         next : get_or (nexts es) f 0 ≡ link_of (first_at w.start (suc f) behind)
         next = next_at w.start 0 es f inside meets ∙ ap (λ (n : ℕ). link_of (first_at w.start (suc n) behind)) (zero-add f)
 
-        last : (m : Option ℕ) → last_at w.start (suc f) behind ≡ m → last_at w.start 0 es ≡ or_else m (some f)
+        last : (m : Option ℕ) → last_at w.start (suc f) behind ≡ m → last_at w.start 0 es ≡ option_or m (Some f)
         last m q =
             last_at_lem w.start 0 es f inside meets
-            ∙ ap (λ (n : ℕ). or_else (last_at w.start (suc n) behind) (some n)) (zero-add f)
-            ∙ ap (λ (m : Option ℕ). or_else m (some f)) q
+            ∙ ap (λ (n : ℕ). option_or (last_at w.start (suc n) behind) (Some n)) (zero-add f)
+            ∙ ap (λ (m : Option ℕ). option_or m (Some f)) q
 
         -- the first one behind it is in the list
-        below : (x : ℕ) → first_at w.start (suc f) behind ≡ some x → x < none_link
+        below : (x : ℕ) → first_at w.start (suc f) behind ≡ Some x → x < none_link
         below x r =
             let h : Hit joints w (suc f) behind x = subst (Sought joints w (suc f) behind) r (seek joints w (suc f) behind) in
             omega (arith, h.inside, h.number, rest (suc f) inside)
 
         go : (m : Option ℕ) → last_at w.start (suc f) behind ≡ m → Ends f
-        go none q =
+        go None q =
             record {
               last = λ _. next ∙ ap link_of ((present w.start (suc f) behind).neither q);
-              more = λ other _. other (sym (ap link_of (last none q)));
+              more = λ other _. other (sym (ap link_of (last None q)));
             }
-        go (some m) q =
+        go (Some m) q =
             let (x, there) = (present w.start (suc f) behind).either m q in
             let far : suc f ≤ m = (last_listed w.start (suc f) behind m q).low in
             record {
-              last = λ e. absurd (omega (arith, e ∙ ap link_of (last (some m) q)));
+              last = λ e. absurd (omega (arith, e ∙ ap link_of (last (Some m) q)));
               more = λ _ e. omega (arith, below x there, sym (next ∙ ap link_of there) ∙ e);
             }
 
@@ -175,7 +174,7 @@ module _ (joints : ℕ → ℕ → ℤ) (w : Word) (es : List LatticeEntry) wher
         turn v.going.k (get_or (nexts es) f 0) v.going.within v.going.next ((ends f v.inside v.meets).more other)
 
     -- At the last one the least of all offers is held.
-    pub done : (held : Offer) (f : ℕ) → Visited joints w es held f → f ≡ link_of (last_at w.start 0 es) → some held ≡ taken joints es w
+    pub done : (held : Offer) (f : ℕ) → Visited joints w es held f → f ≡ link_of (last_at w.start 0 es) → Some held ≡ taken joints es w
     unfolding least
     done held f v e =
         let g = v.going in
@@ -185,16 +184,15 @@ module _ (joints : ℕ → ℕ → ℤ) (w : Word) (es : List LatticeEntry) wher
 -- ---- the rows
 
 -- What the rows tell of entry f: its number is above the start mark's, its candidate's offer can be read, and is its offer.
-pub record Told (position : ℕ) (es : List LatticeEntry) (row : List ℤ) (start entry run : List ℕ) (mode : Mode) (cost : List ℤ) (f : ℕ) : Type 0 where
+pub record Told (position : ℕ) (es : List LatticeEntry) (row : List ℤ) (g : Given) (r : LatticeRows) (f : ℕ) : Type 0 where
   pub above : 0 < f
   pub fits : suc (f - 1) < none_link
-  pub offering : Offering row start entry run mode cost position (f - 1)
-  pub is : offer_of row start entry run mode cost position (f - 1) ≡ offer (in_row row) (mark position) f (entry_numbered es f)
+  pub offering : Offering row g r position (f - 1)
+  pub is : offer_of row g r position (f - 1) ≡ offer (in_row row) (mark position) f (entry_numbered es f)
 
 -- So it is with each that ends at the position, unless that is 0.
-pub told : {position : ℕ} {es : List LatticeEntry} {row : List ℤ} {start entry run : List ℕ} {mode : Mode} {first last : List ℕ} {cost : List ℤ} {next : List ℕ}
-    → Held position es row start entry run mode first last cost next
-    → (position ≡ 0 → ⊥) → (f : ℕ) → f < length es → Meets (mark position) es f → Told position es row start entry run mode cost f
+pub told : {position : ℕ} {es : List LatticeEntry} {row : List ℤ} {g : Given} {r : LatticeRows} → Held position es row g r
+    → (position ≡ 0 → ⊥) → (f : ℕ) → f < length es → Meets (mark position) es f → Told position es row g r f
 told {position} {es} held away zero h m =
     absurd (away (sym (ends_read position (entry_numbered es 0) m).1 ∙ ap (λ (e : LatticeEntry). e.word.end) held.begins))
 told {position} {es} held away (suc k) h m =
@@ -209,7 +207,7 @@ told {position} {es} held away (suc k) h m =
 
 -- Of two offers that lie near, the cheaper one does.
 pub near_against : (position : ℕ) (held rival : Offer) → Near position held.cost → Near position rival.cost
-    → Near position (against cheaper held (some rival)).cost
+    → Near position (against cheaper held (Some rival)).cost
 near_against position held rival h r = go (cheaper rival held)
   where
     go : (t : Bool) → Near position (cond t rival held).cost
@@ -232,7 +230,7 @@ alone e es away j = go (ends_at 0 (entry_numbered es j)) refl
 -- So at 0 its offer is taken: the joint alone.
 pub start_offer_lem : (row : List ℤ) (es : List LatticeEntry) → entry_numbered es 0 ≡ start_mark
     → ((k : ℕ) → suc k < length es → 0 < (entry_numbered es (suc k)).word.end)
-    → taken (in_row row) es (mark 0) ≡ some (record { from = 0; cost = value_in row mark_id })
+    → taken (in_row row) es (mark 0) ≡ Some (record { from = 0; cost = value_in row mark_id })
 unfolding offers least
 start_offer_lem row [] begins away = absurd (true≢false (sym (ap (λ (e : LatticeEntry). e.reached) begins)))
 start_offer_lem row (e ∷ es) begins away =

@@ -2,7 +2,7 @@
 use Prim.Native.Nat.{ℕ, zero, suc, ◌+◌, ◌-◌, ◌≤◌, ◌<◌}
 use mathlib.Core.Path.{◌≡◌, refl, sym, ap, ◌∙◌}
 use mathlib.Core.List.{List, [], ◌∷◌, ◌++◌, map, map-append, append-nil, append_assoc}
-use mathlib.Core.Option.{Option, none, some}
+use Rattle.std.proofs.Common.{Option, None, Some}
 use native.Mathlib.Omega.{arith}
 use native.Mathlib.Nat.{add-zero, zero-add, add-suc}
 use lib.ListN.{length, get_or, length-append, length-map, get_or-append}
@@ -77,8 +77,8 @@ module _ (joints : ℕ → ℕ → ℤ) where
 
 -- An entry's word is the one it was made for.
 pub entry_by_word : (w : Word) (m : Option Offer) → (entry_by w m).word ≡ w
-entry_by_word w none = refl
-entry_by_word w (some o) = refl
+entry_by_word w None = refl
+entry_by_word w (Some o) = refl
 
 -- ---- the entries
 

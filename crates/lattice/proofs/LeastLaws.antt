@@ -3,7 +3,7 @@ use mathlib.Core.Path.{◌≡◌, refl, sym, ◌∙◌}
 use mathlib.Core.Bool.{Bool, true, false, cond}
 use mathlib.Core.List.Memᴰ
 use mathlib.Core.List.{List, [], ◌∷◌, Memᴰ}
-use mathlib.Core.Option.{Option, none, some}
+use Rattle.std.proofs.Common.{Option, None, Some}
 use Rattle.lattice.specs.Lattice.{against, least, cheaper}
 use Rattle.lattice.proofs.OrderLaws.{ints}
 
@@ -21,8 +21,8 @@ module _ {A : Type 0} (before : A → A → Bool) where
 
   -- What `least` may be of a list: nothing of the empty one, the first of the least of another.
   abbrev pub Chosen : List A → Option A → Type 0
-  Chosen xs none = xs ≡ []
-  Chosen xs (some o) = First o xs
+  Chosen xs None = xs ≡ []
+  Chosen xs (Some o) = First o xs
 
   pub member : {o : A} {xs : List A} → First o xs → Memᴰ o xs
   member (here e h) = Memᴰ.head e
@@ -53,16 +53,16 @@ module _ {A : Type 0} (before : A → A → Bool) where
         pick b f false e = here refl (λ p m. fair.not_trans p b x (low f m) e)
 
         step : (m : Option A) → Chosen xs m → First (against before x m) (x ∷ xs)
-        step none e = here {xs = xs} refl (λ p m. absurd (Memᴰ.not-nil (rw e at m)))
-        step (some b) f = pick b f (before b x) refl
+        step None e = here {xs = xs} refl (λ p m. absurd (Memᴰ.not-nil (rw e at m)))
+        step (Some b) f = pick b f (before b x) refl
 
     -- What was found so far, against the next one and then the rest: a loop's step.
     pub against_against : (a b : A) (m : Option A)
-        → against before a (some (against before b m)) ≡ against before (against before a (some b)) m
-    against_against a b none = refl
-    against_against a b (some c) = go (before b a) (before c b) refl refl
+        → against before a (Some (against before b m)) ≡ against before (against before a (Some b)) m
+    against_against a b None = refl
+    against_against a b (Some c) = go (before b a) (before c b) refl refl
       where
-        go : (x y : Bool) → before b a ≡ x → before c b ≡ y → against before a (some (cond y c b)) ≡ against before (cond x b a) (some c)
+        go : (x y : Bool) → before b a ≡ x → before c b ≡ y → against before a (Some (cond y c b)) ≡ against before (cond x b a) (Some c)
         go true true p q = rw (q, fair.trans c b a q p)
         go true false p q = rw (p, q)
         go false true p q = refl

@@ -5,7 +5,7 @@ use mathlib.Core.Path.{◌≡◌, refl, sym, ap, ◌∙◌}
 use mathlib.Core.Bool.{Bool, true, false, true≢false, ◌&&◌}
 use mathlib.Core.List.Memᴰ
 use mathlib.Core.List.{List, [], ◌∷◌, ◌++◌, append-nil, Memᴰ}
-use mathlib.Core.Option.{Option, none, some}
+use Rattle.std.proofs.Common.{Option, None, Some}
 use native.Mathlib.Omega.{arith}
 use native.Mathlib.Nat.{add-zero}
 use lib.ListN.{length}
@@ -142,8 +142,8 @@ module _ (joints : ℕ → ℕ → ℤ) (w : Word) where
 
   -- by the first of the least offers it is so
   pub settled : (es : List LatticeEntry) (m : Option Offer) → Chosen cheaper (offers joints w 0 es) m → (entry_by w m).reached ≡ true → Settled es (entry_by w m)
-  settled es none c r = absurd (true≢false (sym r))
-  settled es (some o) f r =
+  settled es None c r = absurd (true≢false (sym r))
+  settled es (Some o) f r =
       let b = best 0 es o f in
       let at : o.from ≡ b.at = omega (arith, b.number) in
       record {
@@ -155,5 +155,5 @@ module _ (joints : ℕ → ℕ → ℤ) (w : Word) where
 
   -- It is reached if some entry can offer the word something.
   pub reachable : (es : List LatticeEntry) (m : Option Offer) → Chosen cheaper (offers joints w 0 es) m → (i : ℕ) → Meets w es i → (entry_by w m).reached ≡ true
-  reachable es none e i m = absurd (Memᴰ.not-nil (rw e at (offered 0 es i m)))
-  reachable es (some o) f i m = refl
+  reachable es None e i m = absurd (Memᴰ.not-nil (rw e at (offered 0 es i m)))
+  reachable es (Some o) f i m = refl

@@ -4,10 +4,9 @@ use mathlib.Core.Path.{◌≡◌, refl, sym, ap, ◌∙◌}
 use mathlib.Core.List.{List, [], ◌∷◌, ◌++◌, map}
 use native.Mathlib.Omega.{arith}
 use native.Mathlib.Decide.{ℕ_discrete}
-use lib.ListN.{length, get_or, set, drop, length-append, length-drop, length-set, replicate, length-replicate, replicate-append-replicate, get_or-append}
+use lib.ListN.{length, get_or, set, drop, length-append, length-drop, length-set, get_or-append}
 use lib.Seq.{set-append_left, set-append_seam, drop-cons, append_snoc, drop-append-add, drop-drop}
 use Rattle.ground.specs.Rows.{over}
-use Rattle.ground.proofs.RowLaws.{over_length}
 use Rattle.lattice.specs.Words.{up_from}
 
 module _ {ℓ} {A : Type ℓ} where
@@ -28,17 +27,6 @@ module _ {ℓ} {A : Type ℓ} where
       ∙ set-append_seam new (get_or old (length new) a) rest a
       ∙ sym (append_snoc new a rest)
       ∙ ap (λ (m : ℕ). (new ++ (a ∷ [])) ++ drop m old) (sym k)
-
-  -- one more of the same
-  pub over_replicate : (i : ℕ) (a : A) (old : List A) → i < length old → set (over (replicate i a) old) i a ≡ over (replicate (i + 1) a) old
-  over_replicate i a old h =
-      let q = length-replicate i a in
-      ap (λ (k : ℕ). set (over (replicate i a) old) k a) (sym q)
-      ∙ over_snoc (replicate i a) old a (omega arith)
-      ∙ ap (λ (new : List A). over new old) (replicate-append-replicate i 1 a)
-
-  pub replicate_room : (i : ℕ) (a : A) (old : List A) → i ≤ length old → length (over (replicate i a) old) ≡ length old
-  replicate_room i a old h = over_length (replicate i a) old (omega (arith, length-replicate i a))
 
   -- of two writes the longer one is seen
   pub over_over : (new newer old : List A) → length new ≤ length newer → over newer (over new old) ≡ over newer old

@@ -1,11 +1,12 @@
 -- Document 01's rules of the rows: first and last of a position are the lowest and the highest reached entry that ends there, and the next of a
 -- reached entry is the next higher one that ends where it does; or there is none. Assumes nothing.
 use Prim.Native.Nat.{ℕ, zero, suc, ◌+◌, ◌-◌, ◌≤◌, ◌<◌}
+use Rattle.std.proofs.Common.{Option, None, Some}
+use Rattle.std.specs.Option.{option_or}
 use mathlib.Core.Path.{◌≡◌, refl, sym, ap, ◌∙◌}
 use mathlib.Core.Logic.{◌↔◌}
 use mathlib.Core.Bool.{Bool, true, false, true≢false}
 use mathlib.Core.List.{List, [], ◌∷◌, map}
-use mathlib.Core.Option.{Option, none, some, or_else}
 use native.Mathlib.Omega.{arith}
 use native.Mathlib.Nat.{zero-add, add-zero}
 use native.Mathlib.Decide.{dec_lt}
@@ -22,11 +23,11 @@ use Rattle.lattice.proofs.OfferLaws.{ends_read, ends_show}
 chief_only : (order : ℕ → ℕ → Type 0) → ((i j : ℕ) → order i j → order j i → i ≡ j)
     → (es : List LatticeEntry) (position from : ℕ) (m m' : Option ℕ)
     → Chief order es position from m → Chief order es position from m' → m ≡ m'
-chief_only order anti es position from none none p q = refl
-chief_only order anti es position from none (some i) p q = absurd (p i q.listed q.ends)
-chief_only order anti es position from (some i) none p q = absurd (q i p.listed p.ends)
-chief_only order anti es position from (some i) (some j) p q =
-    ap some (anti i j (p.foremost j q.listed q.ends) (q.foremost i p.listed p.ends))
+chief_only order anti es position from None None p q = refl
+chief_only order anti es position from None (Some i) p q = absurd (p i q.listed q.ends)
+chief_only order anti es position from (Some i) None p q = absurd (q i p.listed p.ends)
+chief_only order anti es position from (Some i) (Some j) p q =
+    ap Some (anti i j (p.foremost j q.listed q.ends) (q.foremost i p.listed p.ends))
 
 -- ---- along the list
 
@@ -69,8 +70,8 @@ module _ (whole : List LatticeEntry) where
   -- so what is found among the later ones holds of all
   past_head : (order : ℕ → ℕ → Type 0) (position from : ℕ) (m : Option ℕ) → (Ends whole position from → ⊥)
       → Chief order whole position (suc from) m → Chief order whole position from m
-  past_head order position from none no-head c = λ j h e. c j (past position from j no-head h e) e
-  past_head order position from (some i) no-head c =
+  past_head order position from None no-head c = λ j h e. c j (past position from j no-head h e) e
+  past_head order position from (Some i) no-head c =
       record {
         listed = omega (arith, c.listed);
         ends = c.ends;
@@ -79,12 +80,12 @@ module _ (whole : List LatticeEntry) where
 
   -- the first is the lowest
   first_from : (position from : ℕ) (es : List LatticeEntry) → Tail from es → Lowest whole position from (first_at position from es)
-  unfolding first_at or_else
+  unfolding first_at
   first_from position from [] t = tail_nil position from t
   first_from position from (e ∷ es) t = go (ends_at position e) refl (first_from position (suc from) es (tail_tail from e es t))
     where
       go : (b : Bool) → ends_at position e ≡ b → Lowest whole position (suc from) (first_at position (suc from) es)
-          → Lowest whole position from (or_else (only_if b from) (first_at position (suc from) es))
+          → Lowest whole position from (option_or (only_if b from) (first_at position (suc from) es))
       go true p c = record { listed = omega arith; ends = head_ends position from e es t p; foremost = λ j h x. h }
       go false p c = past_head (λ (i j : ℕ). i ≤ j) position from (first_at position (suc from) es) (head_not position from e es t p) c
 
@@ -98,21 +99,21 @@ module _ (whole : List LatticeEntry) where
 
   -- the last is the highest
   last_from : (position from : ℕ) (es : List LatticeEntry) → Tail from es → Highest whole position from (last_at position from es)
-  unfolding last_at or_else
+  unfolding last_at
   last_from position from [] t = tail_nil position from t
   last_from position from (e ∷ es) t =
       go (ends_at position e) refl (last_at position (suc from) es) (last_from position (suc from) es (tail_tail from e es t))
     where
       go : (b : Bool) → ends_at position e ≡ b → (m : Option ℕ) → Highest whole position (suc from) m
-          → Highest whole position from (or_else m (only_if b from))
-      go true p none c =
+          → Highest whole position from (option_or m (only_if b from))
+      go true p None c =
           record {
             listed = omega arith;
             ends = head_ends position from e es t p;
             foremost = λ j h x. up_to from j from (omega arith) (λ l. absurd (c j l x));
           }
-      go false p none c = past_head (λ (i j : ℕ). j ≤ i) position from none (head_not position from e es t p) c
-      go b p (some i) c =
+      go false p None c = past_head (λ (i j : ℕ). j ≤ i) position from None (head_not position from e es t p) c
+      go b p (Some i) c =
           record {
             listed = omega (arith, c.listed);
             ends = c.ends;

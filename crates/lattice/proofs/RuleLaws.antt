@@ -5,7 +5,7 @@ use mathlib.Core.Logic.Iff
 use mathlib.Core.Logic.{◌↔◌}
 use mathlib.Core.Bool.{Bool, true, false, true≢false}
 use mathlib.Core.List.{List, [], ◌∷◌, ◌++◌}
-use mathlib.Core.Option.{Option, none, some}
+use Rattle.std.proofs.Common.{Option, None, Some}
 use native.Mathlib.Omega.{arith}
 use native.Mathlib.Decide.{dec_lt}
 use lib.ListN.{length, get_or, length-append, get_or-append, get_or-eq_default}
@@ -29,8 +29,8 @@ use Rattle.lattice.proofs.OfferLaws.{Meets, meets_listed, ends_read, ends_show, 
 
 -- it has no left and costs nothing
 unreached_entry : (w : Word) (m : Option Offer) → (entry_by w m).reached ≡ false → ((entry_by w m).left ≡ none_link) × ((entry_by w m).cost ≡ pos 0)
-unreached_entry w none r = (refl, refl)
-unreached_entry w (some o) r = absurd (true≢false r)
+unreached_entry w None r = (refl, refl)
+unreached_entry w (Some o) r = absurd (true≢false r)
 
 -- and it has no next
 pub unreached_next : (from : ℕ) (es : List LatticeEntry) (i : ℕ) → i < length es → (entry_numbered es i).reached ≡ false

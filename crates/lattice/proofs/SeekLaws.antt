@@ -1,9 +1,10 @@
 -- The first entry that ends where a word starts: its offer is the first, and what follows it is told by its next. Assumes nothing.
 use Prim.Native.Nat.{ℕ, zero, suc, ◌+◌, ◌≤◌, ◌<◌}
+use Rattle.std.proofs.Common.{Option, None, Some}
+use Rattle.std.specs.Option.{option_or}
 use mathlib.Core.Path.{◌≡◌, refl, ap, ◌∙◌}
 use mathlib.Core.Bool.{Bool, true, false}
 use mathlib.Core.List.{List, [], ◌∷◌}
-use mathlib.Core.Option.{Option, none, some, or_else}
 use native.Mathlib.Omega.{arith}
 use native.Mathlib.Nat.{add-zero}
 use lib.ListN.{length, get_or, drop}
@@ -25,8 +26,8 @@ module _ (joints : ℕ → ℕ → ℤ) (w : Word) where
 
   -- What a search may have found: such an entry, or none, and then there are no offers.
   abbrev pub Sought : ℕ → List LatticeEntry → Option ℕ → Type 0
-  Sought i es none = offers joints w i es ≡ []
-  Sought i es (some f) = Hit i es f
+  Sought i es None = offers joints w i es ≡ []
+  Sought i es (Some f) = Hit i es f
 
   -- a head that ends there is the first
   here : (i : ℕ) (e : LatticeEntry) (es : List LatticeEntry) → ends_at w.start e ≡ true → Hit i (e ∷ es) i
@@ -36,8 +37,8 @@ module _ (joints : ℕ → ℕ → ℤ) (w : Word) where
   -- behind a head that does not, what was found stays so
   later : (i : ℕ) (e : LatticeEntry) (es : List LatticeEntry) (m : Option ℕ) → ends_at w.start e ≡ false → Sought (suc i) es m → Sought i (e ∷ es) m
   unfolding offers
-  later i e es none q s = rw q s
-  later i e es (some f) q h =
+  later i e es None q s = rw q s
+  later i e es (Some f) q h =
       record {
         place = suc h.place;
         inside = omega (arith, h.inside);
@@ -48,12 +49,12 @@ module _ (joints : ℕ → ℕ → ℤ) (w : Word) where
 
   -- `first_at` finds it.
   pub seek : (i : ℕ) (es : List LatticeEntry) → Sought i es (first_at w.start i es)
-  unfolding first_at or_else offers
+  unfolding first_at offers
   seek i [] = refl
   seek i (e ∷ es) = go (ends_at w.start e) refl (seek (suc i) es)
     where
       go : (t : Bool) → ends_at w.start e ≡ t → Sought (suc i) es (first_at w.start (suc i) es)
-          → Sought i (e ∷ es) (or_else (only_if t i) (first_at w.start (suc i) es))
+          → Sought i (e ∷ es) (option_or (only_if t i) (first_at w.start (suc i) es))
       go true q s = here i e es q
       go false q s = later i e es (first_at w.start (suc i) es) q s
 
@@ -64,8 +65,8 @@ module _ (joints : ℕ → ℕ → ℤ) (w : Word) where
   hit i es f q some-there = go (first_at w.start i es) (seek i es) q
     where
       go : (m : Option ℕ) → Sought i es m → f ≡ link_of m → Hit i es f
-      go none s q = absurd (some-there q)
-      go (some g) s q = rw q s
+      go None s q = absurd (some-there q)
+      go (Some g) s q = rw q s
 
   module _ (i : ℕ) (es : List LatticeEntry) (few : i + length es ≤ none_link) where
     -- where the link is none there are no offers, since no entry has that number
@@ -73,23 +74,23 @@ module _ (joints : ℕ → ℕ → ℤ) (w : Word) where
     dry q = go (first_at w.start i es) (seek i es) q
       where
         go : (m : Option ℕ) → Sought i es m → none_link ≡ link_of m → offers joints w i es ≡ []
-        go none s q = s
-        go (some f) s q = absurd (omega (arith, s.inside, s.number))
+        go None s q = s
+        go (Some f) s q = absurd (omega (arith, s.inside, s.number))
 
     -- a link is not below where the search began, and not above none
     pub link_low : i ≤ link_of (first_at w.start i es)
     link_low = go (first_at w.start i es) (seek i es)
       where
         go : (m : Option ℕ) → Sought i es m → i ≤ link_of m
-        go none s = omega arith
-        go (some f) s = omega (arith, s.number)
+        go None s = omega arith
+        go (Some f) s = omega (arith, s.number)
 
     pub link_high : link_of (first_at w.start i es) ≤ none_link
     link_high = go (first_at w.start i es) (seek i es)
       where
         go : (m : Option ℕ) → Sought i es m → link_of m ≤ none_link
-        go none s = omega arith
-        go (some f) s = omega (arith, s.inside, s.number)
+        go None s = omega arith
+        go (Some f) s = omega (arith, s.inside, s.number)
 
 -- The next of an entry that ends at a position is the first of the later ones that end there.
 pub next_at : (position i : ℕ) (es : List LatticeEntry) (j : ℕ) → j < length es → ends_at position (entry_numbered es j) ≡ true

@@ -1,19 +1,20 @@
 -- How far sums of whole numbers lie above zero and below: both only add up, so a sum's range is a question of natural numbers. Assumes nothing.
 use Prim.Native.Nat.{ℕ, suc, ◌+◌, ◌-◌, ◌*◌, ◌≤◌, ◌<◌, ◌^◌}
-use mathlib.Core.Path.{subst}
+use mathlib.Core.Path.{◌≡◌}
 use mathlib.Core.Bool.{Bool, true, false, cond}
 use native.Mathlib.Omega.{arith}
 use lib.Dec.{ltb}
-use lib.IntN.{ℤ, pos, negsuc, ◌+ℤ◌, +ℤ_idr}
+use lib.IntN.{ℤ, pos, negsuc, ◌+ℤ◌}
 use lib.Signed.{mag}
-use mathlib.Core.Option.{Option, none, some}
-use mir.Syntax.{Width, w32}
-use mir.Val.{SFits, hbits}
+use Rattle.std.proofs.Common.{Option, None, Some}
+use mir.Syntax.{Width, w16, w32}
+use mir.Val.{SFits, hbits, to_z, of_z}
+use mir.Facts.{to_z-of_z}
 use Rattle.ground.specs.Limits.{character_limit, price_limit}
 use Rattle.lattice.specs.Words.{Word}
 use Rattle.lattice.specs.Lattice.{entry_by}
 use Rattle.lattice.specs.Size.{most_each, least_each, least_cost, most_cost, InRange}
-use Rattle.lattice.specs.Inner.{up, down, Near, NearTaken, taken_of, Sized, SumFits}
+use Rattle.lattice.specs.Inner.{up, down, Near, NearTaken, Sized, SumFits}
 use Rattle.lattice.specs.declared.relaxation.Offer.{Offer}
 use Rattle.lattice.proofs.OrderLaws.{le_show}
 
@@ -38,13 +39,14 @@ sum_down (pos a) (negsuc b) = omega (arith, sub_down (ltb a (suc b)) a (suc b))
 sum_down (negsuc a) (pos b) = omega (arith, sub_down (ltb b (suc a)) b (suc a))
 sum_down (negsuc a) (negsuc b) = omega arith
 
--- A sum is held by a width if its parts' distances from zero are.
+-- A number is held by a width if its two distances are.
+pub fits : (w : Width) (z : ℤ) → up z < 2 ^ hbits w → down z ≤ 2 ^ hbits w → SFits w z
+fits w (pos n) h l = record { sfits = h }
+fits w (negsuc n) h l = record { sfits = l }
+
+-- A sum is if its parts' distances are.
 pub sum_fits : (w : Width) (a b : ℤ) → up a + up b < 2 ^ hbits w → down a + down b ≤ 2 ^ hbits w → SFits w (a +ℤ b)
-sum_fits w a b h l = holds (a +ℤ b) (omega (arith, sum_up a b)) (omega (arith, sum_down a b))
-  where
-    holds : (z : ℤ) → up z < 2 ^ hbits w → down z ≤ 2 ^ hbits w → SFits w z
-    holds (pos n) h l = record { sfits = h }
-    holds (negsuc n) h l = record { sfits = l }
+sum_fits w a b h l = fits w (a +ℤ b) (omega (arith, sum_up a b)) (omega (arith, sum_down a b))
 
 -- the two distances of a number whose bits are few
 pub up_mag : (z : ℤ) → up z ≤ mag z
@@ -54,6 +56,19 @@ up_mag (negsuc n) = omega arith
 pub down_mag : (z : ℤ) → down z ≤ suc (mag z)
 down_mag (pos n) = omega arith
 down_mag (negsuc n) = omega arith
+
+-- Such a number is read back as it is.
+pub back : (z : ℤ) → mag z < 2 ^ 31 → to_z w32 (of_z w32 z) ≡ z
+back z h = to_z-of_z (fits w32 z (omega (arith, up_mag z)) (omega (arith, down_mag z)))
+
+-- Of sixteen bits they are no more than these.
+pub up_16 : (z : ℤ) → SFits w16 z → up z ≤ 32767
+up_16 (pos n) h = omega (arith, h.sfits)
+up_16 (negsuc n) h = omega arith
+
+pub down_16 : (z : ℤ) → SFits w16 z → down z ≤ 32768
+down_16 (pos n) h = omega arith
+down_16 (negsuc n) h = omega (arith, h.sfits)
 
 -- A cost that lies near by where its entry ends, with a joint and its charge, is an offer that lies near by the position.
 pub near_offer : (position : ℕ) (cost joint : ℤ) (charge : ℕ)
@@ -65,9 +80,19 @@ near_offer position cost joint charge most least small =
       least = omega (arith, sum_down (cost +ℤ joint) (pos charge), sum_down cost joint, down_mag joint);
     }
 
--- A joint alone lies near.
-pub near_joint : (position : ℕ) (joint : ℤ) → mag joint < 2 ^ 15 → Near position joint
-near_joint position joint small = record { most = omega (arith, up_mag joint); least = omega (arith, down_mag joint) }
+-- And its sums are held by thirty-two bits.
+pub joined_fits : (position : ℕ) (cost joint : ℤ) (charge : ℕ)
+    → up cost + charge ≤ most_each * position → down cost ≤ least_each * position → mag joint < 2 ^ 15 → position ≤ character_limit
+    → SFits w32 (cost +ℤ joint)
+joined_fits position cost joint charge most least small within =
+    sum_fits w32 cost joint (omega (arith, up_mag joint)) (omega (arith, down_mag joint))
+
+pub offer_fits : (position : ℕ) (cost joint : ℤ) (charge : ℕ)
+    → up cost + charge ≤ most_each * position → down cost ≤ least_each * position → mag joint < 2 ^ 15 → position ≤ character_limit
+    → SFits w32 (cost +ℤ joint +ℤ pos charge)
+offer_fits position cost joint charge most least small within =
+    let near = near_offer position cost joint charge most least small in
+    fits w32 (cost +ℤ joint +ℤ pos charge) (omega (arith, near.most)) (omega (arith, near.least))
 
 -- Document 01's range, by the two distances.
 pub in_range : (z : ℤ) → up z ≤ character_limit * most_each + 32767 → down z ≤ character_limit * least_each + 32768 → InRange z
@@ -80,21 +105,21 @@ pub record SmallOwn (own_cost : ℤ) : Type 0 where
 
 -- Such a cost is held by thirty-two bits.
 pub small_fits : (z : ℤ) → SmallOwn z → SFits w32 z
-small_fits z h = subst (SFits w32) (+ℤ_idr z) (sum_fits w32 z (pos 0) (omega (arith, h.most)) (omega (arith, h.least)))
+small_fits z h = fits w32 z (omega (arith, h.most)) (omega (arith, h.least))
 
 -- An entry's cost lies near by where it ends, if its offer lies near by where it starts and its word has a length.
-pub sized_entry : (w : Word) (m : Option Offer) → NearTaken w.start (taken_of m) → SmallOwn w.own_cost
+pub sized_entry : (w : Word) (m : Option Offer) → NearTaken w.start m → SmallOwn w.own_cost
     → w.start < w.end → w.charged ≤ (w.end - w.start) * price_limit → Sized (entry_by w m)
-sized_entry w none near small forward charged = record { most = omega arith; least = omega arith }
-sized_entry w (some o) near small forward charged =
+sized_entry w None near small forward charged = record { most = omega arith; least = omega arith }
+sized_entry w (Some o) near small forward charged =
     record {
       most = omega (arith, sum_up o.cost w.own_cost, near.most, small.most);
       least = omega (arith, sum_down o.cost w.own_cost, near.least, small.least);
     }
 
 -- The offer that a word takes and its own_cost can be summed.
-pub sum_of : (position : ℕ) (m : Option Offer) (own_cost : ℤ) → NearTaken position (taken_of m) → SmallOwn own_cost → position ≤ character_limit
-    → SumFits (taken_of m) own_cost
-sum_of position none own_cost near small few = tt
-sum_of position (some o) own_cost near small few =
+pub sum_of : (position : ℕ) (m : Option Offer) (own_cost : ℤ) → NearTaken position m → SmallOwn own_cost → position ≤ character_limit
+    → SumFits m own_cost
+sum_of position None own_cost near small few = tt
+sum_of position (Some o) own_cost near small few =
     sum_fits w32 o.cost own_cost (omega (arith, near.most, small.most)) (omega (arith, near.least, small.least))

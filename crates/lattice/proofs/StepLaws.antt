@@ -1,8 +1,8 @@
 -- One more entry: what the relaxation may read in rows that hold the entries so far, and how far the new entry's cost lies from zero. Assumes nothing.
 use Prim.Native.Nat.{ℕ, zero, suc, ◌+◌, ◌-◌, ◌*◌, ◌≤◌, ◌<◌}
+use Rattle.std.proofs.Common.{Option, None, Some}
 use mathlib.Core.Path.{◌≡◌, refl, sym, ap, ◌∙◌, subst}
 use mathlib.Core.List.{List, [], ◌∷◌, ◌++◌}
-use mathlib.Core.Option.{Option, none, some}
 use native.Mathlib.Omega.{arith}
 use native.Mathlib.Decide.{dec_lt}
 use lib.ListN.{length, get_or, length-append, get_or-append}
@@ -18,7 +18,7 @@ use Rattle.lattice.specs.Lattice.{LatticeEntry, entry_numbered, unreached, mark,
 use Rattle.lattice.specs.Rows.{LatticeRows, Filled, link_of, last_at, firsts, lasts, costs, nexts, Room}
 use Rattle.lattice.specs.Accepted.{Accepted}
 use Rattle.lattice.specs.Size.{InRange, AllInRange}
-use Rattle.lattice.specs.Inner.{taken_of, in_row, charge_to, NearTaken, Offering, Held, Sized, AllSized, Linkable, entered}
+use Rattle.lattice.specs.Inner.{in_row, charge_to, NearTaken, Offering, Held, Sized, AllSized, Linkable, entered}
 use Rattle.lattice.specs.declared.relaxation.Offer.{Offer}
 use Rattle.lattice.proofs.LatticeLaws.{entries_suc, entries_length, entries_start, word_numbered, entry_word, lattice_end}
 use Rattle.lattice.proofs.RowRules.{firsts_at, lasts_at, costs_at}
@@ -40,7 +40,7 @@ module _ (g : Given) (w : Word) (row : List ℤ) (is : RowOf g w row) where
   row_offers i (e ∷ es) = rw (row_offers (suc i) es, is, joint_row g.matrix g.width w.left_id e.word.right_id)
 
   -- so what is taken by the row is what the word takes
-  pub row_taken : (es : List LatticeEntry) → taken_of (taken (in_row row) es (mark w.start)) ≡ taken_of (taken (joints_of g) es w)
+  pub row_taken : (es : List LatticeEntry) → taken (in_row row) es (mark w.start) ≡ taken (joints_of g) es w
   row_taken es = rw (row_offers 0 es)
 
 -- ---- the rows hold the entries so far
@@ -69,11 +69,11 @@ module _ (n : ℕ) (g : Given) (ok : Accepted n g) (k : ℕ) (most : k ≤ count
     row_wide : length row ≡ g.width
     row_wide = ap length is ∙ row_length g.matrix g.width w.left_id fits
 
-    charge_is : (j : ℕ) → (candidate g j).end ≡ position → (candidate g j).charged ≡ charge_to g.start g.run g.mode position j
+    charge_is : (j : ℕ) → (candidate g j).end ≡ position → (candidate g j).charged ≡ charge_to g position j
     charge_is j e = rw e
 
     -- what candidate j offers, if it ends at the position, can be read
-    offering : (j : ℕ) → suc j < length es → (candidate g j).end ≡ position → Offering row g.start g.entry g.run g.mode t.cost position j
+    offering : (j : ℕ) → suc j < length es → (candidate g j).end ≡ position → Offering row g t position j
     offering j h e =
         let i = listed j h in
         let forward = ok.forward j i in
@@ -94,7 +94,7 @@ module _ (n : ℕ) (g : Given) (ok : Accepted n g) (k : ℕ) (most : k ≤ count
           least = rw (← cost_is (suc j) h, ← e) (rw (word_is j h) at s.least);
         }
 
-    pub held : Held position es row g.start g.entry g.run g.mode t.first t.last t.cost t.next
+    pub held : Held position es row g t
     held =
         record {
           few = omega (arith, entries_length g k, ok.few);
@@ -114,7 +114,7 @@ module _ (n : ℕ) (g : Given) (ok : Accepted n g) (k : ℕ) (most : k ≤ count
         }
 
   -- ---- a word that ends inside the text can be entered
-  pub linkable : (position : ℕ) → position ≤ n → Linkable (suc k) position t.first t.last t.next
+  pub linkable : (position : ℕ) → position ≤ n → Linkable (suc k) position t
   linkable position inside =
       record {
         in_first = omega (arith, room.first);
@@ -124,16 +124,16 @@ module _ (n : ℕ) (g : Given) (ok : Accepted n g) (k : ℕ) (most : k ≤ count
       }
     where
       known : (m : Option ℕ) → last_at position 0 es ≡ m → (get_or t.last position 0 ≡ none_link → ⊥) → get_or t.last position 0 < length t.next
-      known none q ne = absurd (ne (last_is position inside ∙ ap link_of q))
-      known (some i) q ne =
+      known None q ne = absurd (ne (last_is position inside ∙ ap link_of q))
+      known (Some i) q ne =
           let z : get_or t.last position 0 ≡ i = last_is position inside ∙ ap link_of q in
           omega (arith, (last_listed position 0 es i q).high, entries_length g k, room.next)
 
   -- and the rows then hold one entry more
-  stepped : (w : Word) → w.end ≤ n → Filled n (one_more (joints_of g) es w) t (entered (suc k) w.end (taken_of (taken (joints_of g) es w)) w.own_cost t)
+  stepped : (w : Word) → w.end ≤ n → Filled n (one_more (joints_of g) es w) t (entered (suc k) w.end (taken (joints_of g) es w) w.own_cost t)
   stepped w inside =
       let l = entries_length g k in
-      subst (λ (x : ℕ). Filled n (one_more (joints_of g) es w) t (entered x w.end (taken_of (taken (joints_of g) es w)) w.own_cost t)) l
+      subst (λ (x : ℕ). Filled n (one_more (joints_of g) es w) t (entered x w.end (taken (joints_of g) es w) w.own_cost t)) l
       (fill_entered n es w (taken (joints_of g) es w) t t f
       (record {
         first = room.first;
@@ -147,11 +147,11 @@ module _ (n : ℕ) (g : Given) (ok : Accepted n g) (k : ℕ) (most : k ≤ count
 
   -- for candidate k
   pub stepped_candidate : k < count g → let w = candidate g k in
-      Filled n (entries_to g (suc k)) t (entered (suc k) w.end (taken_of (taken (joints_of g) es w)) w.own_cost t)
+      Filled n (entries_to g (suc k)) t (entered (suc k) w.end (taken (joints_of g) es w) w.own_cost t)
   stepped_candidate h = rw (entries_suc g k) (stepped (candidate g k) (ok.inside k h))
 
   -- for the end mark, after all candidates
-  pub stepped_end : k ≡ count g → Filled n (lattice n g) t (entered (suc k) n (taken_of (taken (joints_of g) es (mark n))) (pos 0) t)
+  pub stepped_end : k ≡ count g → Filled n (lattice n g) t (entered (suc k) n (taken (joints_of g) es (mark n)) (pos 0) t)
   stepped_end q = rw (lattice_end g n, ← q) (stepped (mark n) (omega arith))
 
 -- ---- what holds of each entry, and of one more
@@ -168,7 +168,7 @@ each_snoc P es e h p i l = go (dec_lt i (length es))
 module _ (n : ℕ) (g : Given) (ok : Accepted n g) where
   -- the entry of candidate k lies near, if its offer does
   pub sized_next : (k : ℕ) → k < count g → AllSized (entries_to g k)
-      → NearTaken (candidate g k).start (taken_of (taken (joints_of g) (entries_to g k) (candidate g k))) → SmallOwn (candidate g k).own_cost
+      → NearTaken (candidate g k).start (taken (joints_of g) (entries_to g k) (candidate g k)) → SmallOwn (candidate g k).own_cost
       → AllSized (entries_to g (suc k))
   sized_next k h sized near small =
       let w = candidate g k in
@@ -184,7 +184,7 @@ module _ (n : ℕ) (g : Given) (ok : Accepted n g) where
   sized_start (suc i) h = absurd (omega arith)
 
   -- all costs lie in document 01's range
-  pub ranged : AllSized (entries_to g (count g)) → NearTaken n (taken_of (taken (joints_of g) (entries_to g (count g)) (mark n))) → AllInRange (lattice n g)
+  pub ranged : AllSized (entries_to g (count g)) → NearTaken n (taken (joints_of g) (entries_to g (count g)) (mark n)) → AllInRange (lattice n g)
   ranged sized near =
       rw (lattice_end g n)
       (each_snoc (λ (e : LatticeEntry). InRange e.cost) (entries_to g (count g)) (entry_by (mark n) m) small (end_small m near))
@@ -203,9 +203,9 @@ module _ (n : ℕ) (g : Given) (ok : Accepted n g) where
           let e : (entry_numbered (entries_to g (count g)) i).word.end ≤ n = rw (entry_word g i (count g) l) (end_in i l) in
           in_range (entry_numbered (entries_to g (count g)) i).cost (omega (arith, s.most, ok.characters)) (omega (arith, s.least, ok.characters))
 
-      end_small : (m : Option Offer) → NearTaken n (taken_of m) → InRange (entry_by (mark n) m).cost
-      end_small none near = in_range (pos 0) (omega arith) (omega arith)
-      end_small (some o) near =
+      end_small : (m : Option Offer) → NearTaken n m → InRange (entry_by (mark n) m).cost
+      end_small None near = in_range (pos 0) (omega arith) (omega arith)
+      end_small (Some o) near =
           in_range (o.cost +ℤ pos 0)
           (omega (arith, sum_up o.cost (pos 0), near.most, ok.characters))
           (omega (arith, sum_down o.cost (pos 0), near.least, ok.characters))

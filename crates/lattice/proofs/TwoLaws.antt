@@ -4,6 +4,7 @@ use Prim.Native.Nat.{ℕ, zero, suc, ◌+◌, ◌*◌, ◌≤◌, ◌<◌}
 use mathlib.Core.Path.{◌≡◌, refl, sym, ap, ◌∙◌, subst}
 use mathlib.Core.Bool.{Bool, true, false, cond, ◌&&◌}
 use mathlib.Core.List.{List, [], ◌∷◌, append-nil}
+use Rattle.std.proofs.Common.{Option, None, Some}
 use native.Mathlib.Omega.{arith}
 use native.Mathlib.Decide.{dec_lt}
 use borrow.Author.Tests.{lt-ltb, le-ltb, ltb-true, eqb-true, eqb-false, eq-eqb, ne_eqb}
@@ -16,10 +17,9 @@ use Rattle.lattice.specs.Words.{Word, Given, count, candidate}
 use Rattle.lattice.specs.Lattice.{LatticeEntry, mark, entry_numbered, ends_at, offers, least, cheaper, taken, entry_by, joints_of, entries_to}
 use Rattle.lattice.specs.Rows.{LatticeRows, Filled, Room}
 use Rattle.lattice.specs.Accepted.{Accepted}
-use Rattle.lattice.specs.Inner.{taken_of, NearTaken, Linkable, before_of, entered, incoming_of, word_at, beside_of, entries_before, AllSized, SizedBefore}
+use Rattle.lattice.specs.Inner.{NearTaken, Linkable, before_of, entered, incoming_of, word_at, beside_of, entries_before, AllSized, SizedBefore}
 use Rattle.lattice.specs.declared.forward.Incoming.{Incoming}
-use Rattle.lattice.specs.declared.relaxation.Taken.{Taken}
-use Rattle.lattice.specs.declared.relaxation.Taken.TheVariants.{Least, Nothing}
+use Rattle.lattice.specs.declared.relaxation.Offer.{Offer}
 use Rattle.lattice.proofs.LatticeLaws.{entries_suc, entries_length, entry_by_word, lattice_length}
 use Rattle.lattice.proofs.OfferLaws.{ends_not, offers_append, silent}
 use Rattle.lattice.proofs.FillLaws.{SameLengths, rows_equal, fill_fill, fill_held, fill_lengths, room_kept}
@@ -34,11 +34,11 @@ silent_alone position e h (suc j) = refl
 -- ---- the same entry once more
 
 -- To enter an entry a second time changes nothing.
-pub entered_again : (x position : ℕ) (t : Taken) (own_cost : ℤ) (r : LatticeRows) → (x ≡ none_link → ⊥) → position < length r.last
+pub entered_again : (x position : ℕ) (t : Option Offer) (own_cost : ℤ) (r : LatticeRows) → (x ≡ none_link → ⊥) → position < length r.last
     → entered x position t own_cost (entered x position t own_cost r) ≡ entered x position t own_cost r
-entered_again x position Nothing own_cost r Some-number inside =
+entered_again x position None own_cost r Some-number inside =
     rows_equal refl refl (set-set r.left x none_link none_link) (set-set r.cost x (pos 0) (pos 0)) (set-set r.next x none_link none_link)
-entered_again x position (Least o) own_cost r Some-number inside =
+entered_again x position (Some o) own_cost r Some-number inside =
     rows_equal
     (rw (own, ne_eqb x none_link Some-number))
     (set-set r.last position x x)
@@ -63,16 +63,15 @@ entered_again x position (Least o) own_cost r Some-number inside =
         ∙ ap (λ (l : List ℕ). set l before x) (set-set r.next x none_link none_link)
 
 -- and it can be linked again
-pub linkable_again : (x position : ℕ) (t : Taken) (own_cost : ℤ) (r : LatticeRows) → Linkable x position r.first r.last r.next
-    → let s = entered x position t own_cost r in Linkable x position s.first s.last s.next
-linkable_again x position Nothing own_cost r h =
+pub linkable_again : (x position : ℕ) (t : Option Offer) (own_cost : ℤ) (r : LatticeRows) → Linkable x position r → Linkable x position (entered x position t own_cost r)
+linkable_again x position None own_cost r h =
     record {
       in_first = h.in_first;
       in_last = h.in_last;
       in_next = rw length-set h.in_next;
       known = λ ne. rw length-set (h.known ne);
     }
-linkable_again x position (Least o) own_cost r h =
+linkable_again x position (Some o) own_cost r h =
     record {
       in_first = rw (first_length (eqb (get_or r.last position 0) none_link)) h.in_first;
       in_last = rw length-set h.in_last;
@@ -101,7 +100,7 @@ pub record Read (i : Incoming) (w : Word) : Type 0 where
   pub own_cost : i.own_cost ≡ w.own_cost
 
 module _ (n : ℕ) (g : Given) where
-  pub read_word : (k : ℕ) → Read (incoming_of n g.start g.end g.extra g.entry k) (word_at n g k)
+  pub read_word : (k : ℕ) → Read (incoming_of n g k) (word_at n g k)
   read_word k = go (ltb k (count g))
     where
       listed : Incoming
@@ -129,7 +128,7 @@ module _ (n : ℕ) (g : Given) where
       go (no m) = rw (le-ltb k (count g) (omega arith)) (other (omega arith))
 
   -- the word beside word k is word k itself, or the next candidate, which starts where it does
-  pub beside_cases : (P : ℕ → Type 0) (k : ℕ) → P k → (suc k < count g → (candidate g k).start ≡ (candidate g (suc k)).start → P (suc k)) → P (beside_of g.start k)
+  pub beside_cases : (P : ℕ → Type 0) (k : ℕ) → P k → (suc k < count g → (candidate g k).start ≡ (candidate g (suc k)).start → P (suc k)) → P (beside_of g k)
   beside_cases P k same next = go (ltb (suc k) (count g)) refl (eqb (get_or g.start k 0) (get_or g.start (suc k) 0)) refl
     where
       go : (t : Bool) → ltb (suc k) (count g) ≡ t → (u : Bool) → eqb (get_or g.start k 0) (get_or g.start (suc k) 0) ≡ u → P (cond (t && u) (suc k) k)
@@ -151,13 +150,13 @@ module _ (n : ℕ) (g : Given) where
         (λ _. record { start = omega arith; end = omega arith; row = omega (arith, ok.high) })
 
     -- the word beside word k is a word too, and starts where it does
-    pub beside_listed : (k : ℕ) → k ≤ count g → beside_of g.start k ≤ count g
+    pub beside_listed : (k : ℕ) → k ≤ count g → beside_of g k ≤ count g
     beside_listed k h = beside_cases (λ (j : ℕ). j ≤ count g) k h (λ m _. omega arith)
 
-    pub beside_low : (k : ℕ) → k ≤ beside_of g.start k
+    pub beside_low : (k : ℕ) → k ≤ beside_of g k
     beside_low k = beside_cases (λ (j : ℕ). k ≤ j) k (omega arith) (λ _ _. omega arith)
 
-    pub beside_start : (k : ℕ) → k ≤ count g → (word_at n g (beside_of g.start k)).start ≡ (word_at n g k).start
+    pub beside_start : (k : ℕ) → k ≤ count g → (word_at n g (beside_of g k)).start ≡ (word_at n g k).start
     beside_start k h =
         beside_cases (λ (j : ℕ). (word_at n g j).start ≡ (word_at n g k).start) k refl
         (λ m q. rw (lt-ltb (suc k) (count g) m, lt-ltb k (count g) (omega (arith, m))) (sym q))
@@ -199,8 +198,8 @@ module _ (n : ℕ) (g : Given) (ok : Accepted n g) (k : ℕ) (most : k ≤ count
   abbrev word : Word
   word = word_at n g k
 
-  abbrev takes : Taken
-  takes = taken_of (taken (joints_of g) (entries_to g k) word)
+  abbrev takes : Option Offer
+  takes = taken (joints_of g) (entries_to g k) word
 
   -- the rows behind it
   abbrev with_word : LatticeRows
@@ -210,7 +209,7 @@ module _ (n : ℕ) (g : Given) (ok : Accepted n g) (k : ℕ) (most : k ≤ count
   pub one_in : Filled n (entries_before n g (suc k)) t with_word
   one_in =
       word_cases n g
-      (λ (w : Word). Filled n (entries_before n g (suc k)) t (entered (suc k) w.end (taken_of (taken (joints_of g) (entries_to g k) w)) w.own_cost t)) k most
+      (λ (w : Word). Filled n (entries_before n g (suc k)) t (entered (suc k) w.end (taken (joints_of g) (entries_to g k) w) w.own_cost t)) k most
       (λ m. rw (le-ltb (count g) (suc k) m) (stepped_candidate n g ok k most t room f sized m))
       (λ q. rw (lt-ltb (count g) (suc k) (omega (arith, q))) (stepped_end n g ok k most t room f sized q))
 
@@ -218,13 +217,13 @@ module _ (n : ℕ) (g : Given) (ok : Accepted n g) (k : ℕ) (most : k ≤ count
   pub sized_in : NearTaken word.start takes → SmallOwn word.own_cost → SizedBefore n g (suc k)
   sized_in =
       word_cases n g
-      (λ (w : Word). NearTaken w.start (taken_of (taken (joints_of g) (entries_to g k) w)) → SmallOwn w.own_cost → SizedBefore n g (suc k)) k most
+      (λ (w : Word). NearTaken w.start (taken (joints_of g) (entries_to g k) w) → SmallOwn w.own_cost → SizedBefore n g (suc k)) k most
       (λ m near small. record { some = λ _. sized_next n g ok k m sized near small; all = λ z. absurd (omega (arith, m, z)) })
       (λ q near small.
       record {
         some = λ z. absurd (omega (arith, q, z));
         all = λ _. ranged n g ok (subst (λ (k : ℕ). AllSized (entries_to g k)) q sized)
-            (subst (λ (k : ℕ). NearTaken n (taken_of (taken (joints_of g) (entries_to g k) (mark n)))) q near);
+            (subst (λ (k : ℕ). NearTaken n (taken (joints_of g) (entries_to g k) (mark n))) q near);
       })
 
   -- the rows keep their lengths
@@ -239,8 +238,8 @@ module _ (n : ℕ) (g : Given) (ok : Accepted n g) (k : ℕ) (most : k ≤ count
   one = with_word n g ok k most t room f sized
 
   -- What the word of number j takes: what the entries before word k offer.
-  abbrev Takes : ℕ → Taken → Type 0
-  Takes j o = o ≡ taken_of (taken (joints_of g) (entries_to g k) (word_at n g j))
+  abbrev Takes : ℕ → Option Offer → Type 0
+  Takes j o = o ≡ taken (joints_of g) (entries_to g k) (word_at n g j)
 
   -- where the next candidate goes in too, the rows hold what it asks
   module _ (m : suc k < count g) where
@@ -257,17 +256,17 @@ module _ (n : ℕ) (g : Given) (ok : Accepted n g) (k : ℕ) (most : k ≤ count
     next_sized = (sized_in n g ok k most t room f sized near small).some (omega (arith, m))
 
     -- and it takes what it is offered by all entries before it
-    next_takes : (candidate g k).start ≡ (candidate g (suc k)).start → (o : Taken) → Takes (suc k) o
-        → taken_of (taken (joints_of g) (entries_to g (suc k)) (word_at n g (suc k))) ≡ o
+    next_takes : (candidate g k).start ≡ (candidate g (suc k)).start → (o : Option Offer) → Takes (suc k) o
+        → taken (joints_of g) (entries_to g (suc k)) (word_at n g (suc k)) ≡ o
     next_takes q o e =
         let past : taken (joints_of g) (entries_to g (suc k)) (word_at n g (suc k)) ≡ taken (joints_of g) (entries_to g k) (word_at n g (suc k)) =
         rw (lt-ltb (suc k) (count g) m) (taken_past n g ok k m q) in
-        ap taken_of past ∙ sym e
+        past ∙ sym e
 
   -- the second word can be linked
-  pub linkable_beside : let j = beside_of g.start k in Linkable (suc j) (word_at n g j).end one.first one.last one.next
+  pub linkable_beside : let j = beside_of g k in Linkable (suc j) (word_at n g j).end one
   linkable_beside =
-      beside_cases n g (λ (j : ℕ). Linkable (suc j) (word_at n g j).end one.first one.last one.next) k
+      beside_cases n g (λ (j : ℕ). Linkable (suc j) (word_at n g j).end one) k
       (linkable_again (suc k) (word_at n g k).end (takes n g ok k most t room f sized) (word_at n g k).own_cost t
       (linkable n g ok k most t room f sized (word_at n g k).end (inside n g ok k most).end))
       (λ m q.
@@ -275,16 +274,16 @@ module _ (n : ℕ) (g : Given) (ok : Accepted n g) (k : ℕ) (most : k ≤ count
       (inside n g ok (suc k) (omega (arith, m))).end)
 
   -- What the rows hold behind both.
-  abbrev Behind : ℕ → Taken → Type 0
+  abbrev Behind : ℕ → Option Offer → Type 0
   Behind j o =
       Filled n (entries_before n g (suc j)) t (entered (suc j) (word_at n g j).end o (word_at n g j).own_cost one) × SizedBefore n g (suc j)
 
-  pub both_in : let j = beside_of g.start k in (o : Taken) → Takes j o → NearTaken (word_at n g j).start o → SmallOwn (word_at n g j).own_cost → Behind j o
+  pub both_in : let j = beside_of g k in (o : Option Offer) → Takes j o → NearTaken (word_at n g j).start o → SmallOwn (word_at n g j).own_cost → Behind j o
   both_in =
-      beside_cases n g (λ (j : ℕ). (o : Taken) → Takes j o → NearTaken (word_at n g j).start o → SmallOwn (word_at n g j).own_cost → Behind j o) k same next
+      beside_cases n g (λ (j : ℕ). (o : Option Offer) → Takes j o → NearTaken (word_at n g j).start o → SmallOwn (word_at n g j).own_cost → Behind j o) k same next
     where
       -- the first word once more
-      same : (o : Taken) → Takes k o → NearTaken (word_at n g k).start o → SmallOwn (word_at n g k).own_cost → Behind k o
+      same : (o : Option Offer) → Takes k o → NearTaken (word_at n g k).start o → SmallOwn (word_at n g k).own_cost → Behind k o
       same o e _ _ =
           let again : entered (suc k) (word_at n g k).end o (word_at n g k).own_cost one ≡ one =
           rw e
@@ -296,14 +295,14 @@ module _ (n : ℕ) (g : Given) (ok : Accepted n g) (k : ℕ) (most : k ≤ count
 
       -- the next candidate
       next : suc k < count g → (candidate g k).start ≡ (candidate g (suc k)).start
-          → (o : Taken) → Takes (suc k) o → NearTaken (word_at n g (suc k)).start o → SmallOwn (word_at n g (suc k)).own_cost → Behind (suc k) o
+          → (o : Option Offer) → Takes (suc k) o → NearTaken (word_at n g (suc k)).start o → SmallOwn (word_at n g (suc k)).own_cost → Behind (suc k) o
       next m q o e Near-next small-next =
           let w = word_at n g (suc k) in
           let le : suc k ≤ count g = omega (arith, m) in
           let is = next_takes m q o e in
           let two = entered (suc (suc k)) w.end o w.own_cost one in
           let filled : Filled n (entries_before n g (suc (suc k))) one two =
-          subst (λ (o : Taken). Filled n (entries_before n g (suc (suc k))) one (entered (suc (suc k)) w.end o w.own_cost one)) is
+          subst (λ (o : Option Offer). Filled n (entries_before n g (suc (suc k))) one (entered (suc (suc k)) w.end o w.own_cost one)) is
           (one_in n g ok (suc k) le one (next_room m) (next_held m) (next_sized m)) in
           let longer : length (entries_to g (suc k)) ≤ length (entries_before n g (suc (suc k))) =
           rw (le-ltb (count g) (suc (suc k)) m) (omega (arith, entries_length g (suc k), entries_length g (suc (suc k)))) in (

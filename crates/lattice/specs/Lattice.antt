@@ -1,6 +1,5 @@
 -- Document 01, "The lattice": the entries, and what each is offered.
-use Rattle.std.specs.Prelude.{ℕ, suc, Bool, true, false, cond, ◌&&◌, List, [], ◌∷◌, ◌++◌, get_or, ℤ, pos, ◌+ℤ◌, eqb}
-use Rattle.std.proofs.Math.Option.{Option, none, some}
+use Rattle.std.specs.Prelude.{ℕ, suc, Bool, true, false, cond, ◌&&◌, List, [], ◌∷◌, ◌++◌, get_or, ℤ, pos, ◌+ℤ◌, eqb, Option, None, Some}
 use Rattle.std.specs.Int.Signed.{lt_z}
 use Rattle.ground.specs.Entry.{mark_id, none_link}
 use Rattle.ground.specs.Matrix.{joint}
@@ -60,13 +59,13 @@ offers joints w i (e ∷ es) =
 
 -- x, or another that goes before it.
 abbrev pub against : {A : Type 0} → (A → A → Bool) → A → Option A → A
-against before x none = x
-against before x (some other) = cond (before other x) other x
+against before x None = x
+against before x (Some other) = cond (before other x) other x
 
 -- The least of a list by a test of what goes before what; of equals the first.
 unfoldable pub least : {A : Type 0} → (A → A → Bool) → List A → Option A
-least before [] = none
-least before (x ∷ xs) = some (against before x (least before xs))
+least before [] = None
+least before (x ∷ xs) = Some (against before x (least before xs))
 
 -- An offer goes before another if it costs less.
 abbrev pub cheaper : Offer → Offer → Bool
@@ -80,8 +79,8 @@ taken joints es w = least cheaper (offers joints w 0 es)
 
 -- A word's entry, by the offer that it takes: the offer's cost, then + extra + word cost.
 abbrev pub entry_by : Word → Option Offer → LatticeEntry
-entry_by w none = unreached w
-entry_by w (some o) = record { word = w; reached = true; cost = o.cost +ℤ w.own_cost; left = o.from }
+entry_by w None = unreached w
+entry_by w (Some o) = record { word = w; reached = true; cost = o.cost +ℤ w.own_cost; left = o.from }
 
 -- One more entry, for a word that is offered what those before it offer. (These are all: every entry that ends where a candidate starts has a
 -- lower number, if the tests have passed, and so have all others than the end mark: `over_all` and `rules` in RuleLaws.)

@@ -1,35 +1,34 @@
 -- Document 01, "The lattice": the five rows, and what they hold after the forward pass.
-use Rattle.std.specs.Prelude.{ℕ, suc, ◌≤◌, ◌<◌, ◌≡◌, Bool, cond, List, [], ◌∷◌, map, length, ℤ}
-use Rattle.std.proofs.Math.Option.{Option, none, some, or_else}
+use Rattle.std.specs.Prelude.{ℕ, suc, ◌≤◌, ◌<◌, ◌≡◌, Bool, cond, List, [], ◌∷◌, map, length, ℤ, Option, None, Some}
+use Rattle.std.specs.Option.{option_or}
 use Rattle.ground.specs.Entry.{none_link}
 use Rattle.ground.specs.Rows.{over}
 use Rattle.lattice.specs.Words.{up_from}
 use Rattle.lattice.specs.Lattice.{LatticeEntry, ends_at}
+use Rattle.lattice.specs.declared.rows.Rows.{Rows}
 
 -- x where the test holds.
-abbrev pub only_if {ℓ} : {A : Type ℓ} → Bool → A → Option A
-only_if t x = cond t (some x) none
+abbrev pub only_if : {A : Type 0} → Bool → A → Option A
+only_if t x = cond t (Some x) None
 
 -- How a row holds a number, or that there is none.
 abbrev pub link_of : Option ℕ → ℕ
-link_of none = none_link
-link_of (some i) = i
+link_of None = none_link
+link_of (Some i) = i
 
 -- The lowest reached entry that ends at a position, of entries numbered from i on.
 unfoldable pub first_at : ℕ → ℕ → List LatticeEntry → Option ℕ
-unfolding or_else
-first_at position i [] = none
-first_at position i (e ∷ es) = or_else (only_if (ends_at position e) i) (first_at position (suc i) es)
+first_at position i [] = None
+first_at position i (e ∷ es) = option_or (only_if (ends_at position e) i) (first_at position (suc i) es)
 
 -- The highest one.
 unfoldable pub last_at : ℕ → ℕ → List LatticeEntry → Option ℕ
-unfolding or_else
-last_at position i [] = none
-last_at position i (e ∷ es) = or_else (last_at position (suc i) es) (only_if (ends_at position e) i)
+last_at position i [] = None
+last_at position i (e ∷ es) = option_or (last_at position (suc i) es) (only_if (ends_at position e) i)
 
 -- What comes next after an entry: if it is reached, the first of the higher reached ones that end where it does.
 abbrev pub next_of : Bool → Option ℕ → Option ℕ
-next_of reached higher = cond reached higher none
+next_of reached higher = cond reached higher None
 
 -- ---- the rows, as lists
 
@@ -74,6 +73,18 @@ pub record LatticeRows : Type 0 where
 -- The same, put together.
 abbrev pub rows : List ℕ → List ℕ → List ℕ → List ℤ → List ℕ → LatticeRows
 rows first last left cost next = record { first = first; last = last; left = left; cost = cost; next = next }
+
+-- What a caller's rows hold.
+abbrev pub held : Rows → LatticeRows
+held r = rows r.first.now r.last.now r.left.now r.cost.now r.next.now
+
+-- They are the same five rows, whatever they hold.
+pub record SameRows (old new : Rows) : Type 0 where
+  pub first : new.first.ghost_name ≡ old.first.ghost_name
+  pub last : new.last.ghost_name ≡ old.last.ghost_name
+  pub left : new.left.ghost_name ≡ old.left.ghost_name
+  pub cost : new.cost.ghost_name ≡ old.cost.ghost_name
+  pub next : new.next.ghost_name ≡ old.next.ghost_name
 
 -- The rows after a call that writes these entries, from the rows before it: places beyond keep their contents. (None changes its length:
 -- `fill_lengths` in FillLaws.)

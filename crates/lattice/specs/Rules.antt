@@ -1,7 +1,6 @@
 -- Document 01's rules of the entries and the rows, as statements about the whole lattice: what it holds, said without how it is computed.
 -- They hold for all that the forward pass accepts: `rules` in RuleLaws, `row_rules_lem` in RowRules.
-use Rattle.std.specs.Prelude.{ℕ, suc, ◌≤◌, ◌<◌, ◌≡◌, ◌↔◌, true, false, List, length, get_or, ℤ, pos, ◌+ℤ◌, ◌≤ℤ◌}
-use Rattle.std.proofs.Math.Option.{Option, none, some}
+use Rattle.std.specs.Prelude.{ℕ, suc, ◌≤◌, ◌<◌, ◌≡◌, ◌↔◌, true, false, List, length, get_or, ℤ, pos, ◌+ℤ◌, ◌≤ℤ◌, Option, None, Some}
 use Rattle.ground.specs.Entry.{none_link}
 use Rattle.lattice.specs.Words.{Word, Given, count, candidate}
 use Rattle.lattice.specs.Lattice.{LatticeEntry, entry_numbered, start_mark, mark, via, joints_of, lattice}
@@ -58,8 +57,8 @@ pub record Foremost (order : ℕ → ℕ → Type 0) (es : List LatticeEntry) (p
 
 -- It is that one, or there is none.
 abbrev pub Chief : (ℕ → ℕ → Type 0) → List LatticeEntry → ℕ → ℕ → Option ℕ → Type 0
-Chief order es position from none = (j : ℕ) → from ≤ j → Ends es position j → ⊥
-Chief order es position from (some i) = Foremost order es position from i
+Chief order es position from None = (j : ℕ) → from ≤ j → Ends es position j → ⊥
+Chief order es position from (Some i) = Foremost order es position from i
 
 -- The lowest and the highest, or none.
 abbrev pub Lowest : List LatticeEntry → ℕ → ℕ → Option ℕ → Type 0

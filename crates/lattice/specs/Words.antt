@@ -3,6 +3,7 @@ use Rattle.std.specs.Prelude.{ℕ, zero, suc, ◌-◌, List, [], ◌∷◌, map,
 use Rattle.ground.specs.Entry.{entry_at}
 use Rattle.ground.specs.Charge.{charge}
 use Rattle.ground.specs.declared.charge.Mode.{Mode}
+use Rattle.lattice.specs.declared.sentence.Sentence.{Sentence}
 
 -- What can stand in the sentence: a candidate, or a mark, which is taken as a word of length 0.
 pub record Word : Type 0 where
@@ -28,6 +29,12 @@ pub record Given : Type 0 where
 abbrev pub given : List ℕ → List ℕ → List ℤ → List ℕ → List ℕ → Mode → List ℤ → ℕ → Given
 given start end extra entry run mode matrix width =
     record { start = start; end = end; extra = extra; entry = entry; run = run; mode = mode; matrix = matrix; width = width }
+
+-- What a caller gives.
+abbrev pub given_by : Sentence → Given
+given_by s =
+    let c = s.candidates in
+    given c.start.now c.end.now c.extra.now c.entry.now s.run.now s.mode s.matrix.values.now s.matrix.width
 
 -- c, the number of candidates.
 abbrev pub count : Given → ℕ

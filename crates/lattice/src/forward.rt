@@ -1,43 +1,36 @@
 // The forward pass (document 01, pieces 5 and 6): the start mark, the candidates in their order, the end mark.
-ghost use Rattle.std.specs.Prelude.{◌≡◌, cond, suc, ◌+◌, ◌≤◌, ◌<◌, [], ◌∷◌, length, ◌+ℤ◌};
+ghost use Rattle.std.specs.Prelude.{◌≡◌, suc, ◌+◌, ◌≤◌, ◌<◌, [], ◌∷◌, length, ◌+ℤ◌};
 ghost use Rattle.ground.specs.Limits.{candidate_limit};
-ghost use Rattle.lattice.specs.Words.{given};
+ghost use Rattle.lattice.specs.Words.{given_by, count};
 ghost use Rattle.lattice.specs.Lattice.{start_mark, entries_to, lattice};
-ghost use Rattle.lattice.specs.Rows.{rows, Filled, Room};
+ghost use Rattle.lattice.specs.Rows.{held, SameRows, Filled, Room};
 ghost use Rattle.lattice.specs.Accepted.{Accepted};
 ghost use Rattle.lattice.specs.Size.{AllInRange};
 ghost use Rattle.lattice.specs.Inner.{up, down, AllSized, Readable, incoming_of, beside_of, entries_before, SizedBefore};
 
-use crate::{relaxation, rows};
-use ground::charge::Mode;
+use crate::relaxation;
+use crate::rows::{self, NewEntry, Rows};
+use crate::sentence::Sentence;
 use ground::entry::Entry;
-use ground::{matrix, signed};
 
 // The start mark goes into the rows.
-fn start_mark(
-    n: usize,
-    first: &mut [u16],
-    last: &mut [u16],
-    left: &mut [u16],
-    cost: &mut [i32],
-    next: &mut [u16],
-)
-    requires { Room n 1 (rows first.old last.old left.old cost.old next.old) }
-    ensures { Filled n (start_mark ∷ []) (rows first.old last.old left.old cost.old next.old) (rows first.new last.new left.new cost.new next.new) }
+fn start_mark(n: usize, rows: &mut Rows)
+    requires { Room n 1 (held rows.old) }
+    ensures filled { Filled n (start_mark ∷ []) (held rows.old) (held rows.new) }
+    ensures same { SameRows rows.old rows.new }
 {
-    rows::clear(n, first);
-    rows::clear(n, last);
-    left[0] = Entry::NONE;
-    let nothing: i32 = 0;
-    cost[0] = nothing;
-    rows::link(Entry::START, 0, first, last, next);
+    rows::clear(n, rows.first);
+    rows::clear(n, rows.last);
+    rows.left[0] = Entry::NONE;
+    rows.cost[0] = 0;
+    rows::link(Entry::START, 0, rows);
 }
 
 // The extra and the word cost of candidate k.
 fn own_cost(extra: i16, word_cost: i16) -> i32
     ensures { (result ≡ extra +ℤ word_cost) × (up result ≤ 65534) × (down result ≤ 65536) }
 {
-    signed::add(signed::widened(extra), signed::widened(word_cost))
+    i32::from(extra) + i32::from(word_cost)
 }
 
 // What is read of a word that goes into the lattice.
@@ -49,26 +42,20 @@ pub struct Incoming {
     pub own_cost: i32,
 }
 
-// 1 where the test holds, otherwise 0.
-fn one_if(test: bool) -> usize
-    ensures { result ≡ cond test 1 0 }
-{
-    if test { 1 } else { 0 }
-}
-
 // Candidate k, or behind the candidates the end mark: it takes the row of left id 0, and has no extra and no word cost.
-fn word_at(k: usize, n: usize, start: &[u16], end: &[u16], extra: &[i16], entry: &[u8]) -> Incoming
-    requires { Readable n start.now end.now extra.now entry.now }
-    ensures value { result ≡ incoming_of n start.now end.now extra.now entry.now k }
+fn word_at(k: usize, n: usize, sentence: &Sentence) -> Incoming
+    requires { Readable n (given_by sentence.now) }
+    ensures value { result ≡ incoming_of n (given_by sentence.now) k }
     ensures own_cost_bound { (up result.own_cost ≤ 65534) × (down result.own_cost ≤ 65536) }
 {
-    if k < start.len() {
-        let word = Entry::read(entry, k);
+    let candidates = &sentence.candidates;
+    if k < candidates.start.len() {
+        let word = Entry::read(candidates.entry, k);
         Incoming {
-            start: start[k],
-            end: end[k],
+            start: candidates.start[k],
+            end: candidates.end[k],
             left_id: word.left_id,
-            own_cost: own_cost(extra[k], word.cost),
+            own_cost: own_cost(candidates.extra[k], word.cost),
         }
     } else {
         Incoming {
@@ -81,119 +68,72 @@ fn word_at(k: usize, n: usize, start: &[u16], end: &[u16], extra: &[i16], entry:
 }
 
 // Which word goes in together with word k: the next candidate, if it starts where k does, and otherwise k itself.
-fn beside(k: usize, start: &[u16]) -> usize
-    requires { (k ≤ length start.now) × (length start.now ≤ candidate_limit) }
-    ensures { result ≡ beside_of start.now k }
+fn beside(k: usize, sentence: &Sentence) -> usize
+    requires { (k ≤ count (given_by sentence.now)) × (count (given_by sentence.now) ≤ candidate_limit) }
+    ensures { result ≡ beside_of (given_by sentence.now) k }
 {
+    let start = sentence.candidates.start;
     if start.len() <= k + 1 {
         return k;
     }
-    k + one_if(start[k] == start[k + 1])
+    k + usize::from(start[k] == start[k + 1])
 }
 
-// Words k and beside k go into the lattice; the number of the word behind them comes back.
-fn two_words(
-    k: usize,
-    n: usize,
-    start: &[u16],
-    end: &[u16],
-    extra: &[i16],
-    entry: &[u8],
-    run: &[u16],
-    mode: Mode,
-    matrix: &[i16],
-    width: usize,
-    first: &mut [u16],
-    last: &mut [u16],
-    left: &mut [u16],
-    cost: &mut [i32],
-    next: &mut [u16],
-) -> usize
-    requires accepted { (k ≤ length start.now) × Accepted n (given start.now end.now extra.now entry.now run.now mode matrix.now width) × AllSized (entries_to (given start.now end.now extra.now entry.now run.now mode matrix.now width) k) }
-    requires room { Room n (length start.now + 2) (rows first.old last.old left.old cost.old next.old) × Filled n (entries_to (given start.now end.now extra.now entry.now run.now mode matrix.now width) k) (rows first.old last.old left.old cost.old next.old) (rows first.old last.old left.old cost.old next.old) }
-    ensures value { result ≡ suc (beside_of start.now k) }
-    ensures filled { Filled n (entries_before n (given start.now end.now extra.now entry.now run.now mode matrix.now width) result) (rows first.old last.old left.old cost.old next.old) (rows first.new last.new left.new cost.new next.new) × SizedBefore n (given start.now end.now extra.now entry.now run.now mode matrix.now width) result }
+// Words k and beside k go into the lattice; the number of the word behind them comes back. (Here and below what is accepted is asked for, and is no
+// type: `Accepted` is what document 01's tests leave, said over the records that its rules speak of.)
+fn two_words(k: usize, n: usize, sentence: &Sentence, rows: &mut Rows) -> usize
+    requires accepted { (k ≤ count (given_by sentence.now)) × Accepted n (given_by sentence.now) × AllSized (entries_to (given_by sentence.now) k) }
+    requires room { Room n (count (given_by sentence.now) + 2) (held rows.old) × Filled n (entries_to (given_by sentence.now) k) (held rows.old) (held rows.old) }
+    ensures value { result ≡ suc (beside_of (given_by sentence.now) k) }
+    ensures filled { Filled n (entries_before n (given_by sentence.now) result) (held rows.old) (held rows.new) × SizedBefore n (given_by sentence.now) result }
+    ensures same { SameRows rows.old rows.new }
 {
-    let other = beside(k, start);
-    let word = word_at(k, n, start, end, extra, entry);
-    let other_word = word_at(other, n, start, end, extra, entry);
-    let row = matrix::row(matrix, width, word.left_id as usize);
-    let other_row = matrix::row(matrix, width, other_word.left_id as usize);
-    let pair = relaxation::relax(
-        word.start, row, other_row, start, entry, run, mode, first, last, cost, next,
-    );
+    let other = beside(k, sentence);
+    let word = word_at(k, n, sentence);
+    let other_word = word_at(other, n, sentence);
+    let row = sentence.matrix.row(word.left_id);
+    let other_row = sentence.matrix.row(other_word.left_id);
+    let pair = relaxation::relax(word.start, row, other_row, sentence, rows);
     rows::enter_two(
-        (k + 1) as u16,
-        word.end as usize,
-        relaxation::one_of(pair),
-        word.own_cost,
-        (other + 1) as u16,
-        other_word.end as usize,
-        relaxation::other_of(pair),
-        other_word.own_cost,
-        first,
-        last,
-        left,
-        cost,
-        next,
+        NewEntry {
+            number: (k + 1) as u16,
+            end: word.end,
+            taken: pair.map(|offers| offers.one),
+            own_cost: word.own_cost,
+        },
+        NewEntry {
+            number: (other + 1) as u16,
+            end: other_word.end,
+            taken: pair.map(|offers| offers.other),
+            own_cost: other_word.own_cost,
+        },
+        rows,
     );
     other + 1
 }
 
-// All candidates and the end mark go into the lattice, in their order.
-fn all_words(
-    n: usize,
-    start: &[u16],
-    end: &[u16],
-    extra: &[i16],
-    entry: &[u8],
-    run: &[u16],
-    mode: Mode,
-    matrix: &[i16],
-    width: usize,
-    first: &mut [u16],
-    last: &mut [u16],
-    left: &mut [u16],
-    cost: &mut [i32],
-    next: &mut [u16],
-)
-    requires accepted { Accepted n (given start.now end.now extra.now entry.now run.now mode matrix.now width) }
-    requires room { Room n (length start.now + 2) (rows first.old last.old left.old cost.old next.old) × Filled n (start_mark ∷ []) (rows first.old last.old left.old cost.old next.old) (rows first.old last.old left.old cost.old next.old) }
-    ensures filled { Filled n (lattice n (given start.now end.now extra.now entry.now run.now mode matrix.now width)) (rows first.old last.old left.old cost.old next.old) (rows first.new last.new left.new cost.new next.new) }
-    ensures all_in_range { AllInRange (lattice n (given start.now end.now extra.now entry.now run.now mode matrix.now width)) }
+// All candidates and the end mark go into the lattice, in their order. (A step takes one or two words, so the loop counts by hand.)
+fn all_words(n: usize, sentence: &Sentence, rows: &mut Rows)
+    requires accepted { Accepted n (given_by sentence.now) }
+    requires room { Room n (count (given_by sentence.now) + 2) (held rows.old) × Filled n (start_mark ∷ []) (held rows.old) (held rows.old) }
+    ensures filled { Filled n (lattice n (given_by sentence.now)) (held rows.old) (held rows.new) }
+    ensures all_in_range { AllInRange (lattice n (given_by sentence.now)) }
+    ensures same { SameRows rows.old rows.new }
 {
     let mut k = 0;
-    while k <= start.len() {
-        k = two_words(
-            k, n, start, end, extra, entry, run, mode, matrix, width, first, last, left, cost, next,
-        );
+    while k <= sentence.candidates.start.len() {
+        k = two_words(k, n, sentence, rows);
     }
 }
 
 // The forward pass: every row after it is a function of what it reads and of what the row held, and every stored cost is in range.
-pub fn forward_pass(
-    n: usize,
-    start: &[u16],
-    end: &[u16],
-    extra: &[i16],
-    entry: &[u8],
-    run: &[u16],
-    mode: Mode,
-    matrix: &[i16],
-    width: usize,
-    first: &mut [u16],
-    last: &mut [u16],
-    left: &mut [u16],
-    cost: &mut [i32],
-    next: &mut [u16],
-)
-    requires accepted { Accepted n (given start.now end.now extra.now entry.now run.now mode matrix.now width) }
-    requires room { Room n (length start.now + 2) (rows first.old last.old left.old cost.old next.old) }
-    ensures filled { Filled n (lattice n (given start.now end.now extra.now entry.now run.now mode matrix.now width)) (rows first.old last.old left.old cost.old next.old) (rows first.new last.new left.new cost.new next.new) }
-    ensures all_in_range { AllInRange (lattice n (given start.now end.now extra.now entry.now run.now mode matrix.now width)) }
+pub fn forward_pass(n: usize, sentence: &Sentence, rows: &mut Rows)
+    requires accepted { Accepted n (given_by sentence.now) }
+    requires room { Room n (count (given_by sentence.now) + 2) (held rows.old) }
+    ensures filled { Filled n (lattice n (given_by sentence.now)) (held rows.old) (held rows.new) }
+    ensures all_in_range { AllInRange (lattice n (given_by sentence.now)) }
+    ensures same { SameRows rows.old rows.new }
 {
-    start_mark(n, first, last, left, cost, next);
-    all_words(
-        n, start, end, extra, entry, run, mode, matrix, width, first, last, left, cost, next,
-    );
+    start_mark(n, rows);
+    all_words(n, sentence, rows);
 }

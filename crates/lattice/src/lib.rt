@@ -4,3 +4,4 @@
 pub mod forward;
 pub mod relaxation;
 pub mod rows;
+pub mod sentence;

@@ -1,14 +1,18 @@
 // The relaxation (document 01, piece 5; `add_edge_in_lattice`, `relax_decompose`): the least offer of the entries that end where a word starts. Two words
 // that start at one position are relaxed together: finding the entries that end there costs more than looking at what they offer.
-ghost use Rattle.std.specs.Prelude.{◌≡◌, suc, ◌<◌, cond, List, length, get_or, pos};
-ghost use Rattle.std.proofs.Math.Option.{some};
+ghost use Rattle.std.specs.Prelude.{◌≡◌, suc, ◌<◌, List, length, get_or, pos, Some};
 ghost use Rattle.ground.specs.Entry.{none_link};
+ghost use Rattle.lattice.specs.Words.{given_by};
 ghost use Rattle.lattice.specs.Lattice.{LatticeEntry, mark, cheaper, against, taken};
-ghost use Rattle.lattice.specs.Inner.{taken_of, in_row, charge_to, Chargeable, offer_of, Offering, start_offer, Near, NearPair, NearTaken, one_of, other_of, HeldBoth};
+ghost use Rattle.lattice.specs.Rows.{held};
+ghost use Rattle.lattice.specs.Inner.{in_row, charge_to, Chargeable, offer_of, Offering, start_offer, Near, NearPair, NearTaken, one_of, other_of, HeldBoth};
 
+use crate::rows::Rows;
+use crate::sentence::Sentence;
 use ground::charge::Mode;
 use ground::entry::Entry;
-use ground::{matrix, signed};
+use ground::matrix;
+use std::hint::select_unpredictable;
 
 // What it costs a word to come from an entry, and the entry's number.
 #[derive(Clone, Copy)]
@@ -24,77 +28,60 @@ pub struct Pair {
     pub other: Offer,
 }
 
-// The offer that a word takes.
-#[derive(Clone, Copy)]
-pub enum Taken {
-    Least(Offer),
-    Nothing,
-}
-
-// The offers that two words take which start at one position.
-#[derive(Clone, Copy)]
-pub enum TakenPair {
-    Each(Pair),
-    NoPair,
-}
-
 // The charge of candidate k, which ends at a position; Normal reads nothing for it.
-fn charge(k: usize, position: u16, start: &[u16], run: &[u16], mode: Mode) -> i32
-    requires { Chargeable start.now run.now mode position k }
-    ensures { result ≡ pos (charge_to start.now run.now mode position k) }
+fn charge(k: usize, position: u16, sentence: &Sentence) -> i32
+    requires { Chargeable (given_by sentence.now) position k }
+    ensures { result ≡ pos (charge_to (given_by sentence.now) position k) }
 {
-    match mode {
+    match sentence.mode {
         Mode::Normal => 0,
-        Mode::Decompose(penalty) => {
-            let from = start[k];
-            Mode::Decompose(penalty).charge(run[from as usize], position - from)
+        Mode::Decompose(_) => {
+            let from = sentence.candidates.start[k];
+            let run = sentence.run[usize::from(from)];
+            sentence.mode.charge(run, position - from)
         }
     }
 }
 
-// What candidate k, which ends at a position, offers.
-fn offer_of(
+// What candidate k, which ends at a position, offers each of two words. (What is the same for both is read once.)
+fn offers_of(
     k: usize,
     position: u16,
     row: &[i16],
-    start: &[u16],
-    entry: &[u8],
-    run: &[u16],
-    mode: Mode,
-    cost: &[i32],
-) -> Offer
-    requires { (suc k < none_link) × Offering row.now start.now entry.now run.now mode cost.now position k }
-    ensures { (result ≡ offer_of row.now start.now entry.now run.now mode cost.now position k) × Near position result.cost }
+    other_row: &[i16],
+    sentence: &Sentence,
+    rows: &Rows,
+) -> Pair
+    requires fits { suc k < none_link }
+    requires offering { Offering row.now (given_by sentence.now) (held rows.now) position k × Offering other_row.now (given_by sentence.now) (held rows.now) position k }
+    ensures one { result.one ≡ offer_of row.now (given_by sentence.now) (held rows.now) position k }
+    ensures other { result.other ≡ offer_of other_row.now (given_by sentence.now) (held rows.now) position k }
+    ensures near_pair { NearPair position result }
 {
-    let right_id = Entry::right_id_of(entry, k) as usize;
-    let joined = signed::add(cost[k + 1], matrix::joint(row, right_id));
-    Offer {
-        from: (k + 1) as u16,
-        cost: signed::add(joined, charge(k, position, start, run, mode)),
+    let right_id = Entry::right_id_of(sentence.candidates.entry, k);
+    let charged = charge(k, position, sentence);
+    let cost = rows.cost[k + 1];
+    let from = (k + 1) as u16;
+    Pair {
+        one: Offer {
+            from,
+            cost: cost + matrix::joint(row, right_id) + charged,
+        },
+        other: Offer {
+            from,
+            cost: cost + matrix::joint(other_row, right_id) + charged,
+        },
     }
-}
-
-// One of two numbers, by a test.
-pub fn number_if(test: bool, yes: u16, no: u16) -> u16
-    ensures { result ≡ cond test yes no }
-{
-    if test { yes } else { no }
-}
-
-fn cost_if(test: bool, yes: i32, no: i32) -> i32
-    ensures { result ≡ cond test yes no }
-{
-    if test { yes } else { no }
 }
 
 // The cheaper of two offers; of equals the one that is held. (Number and cost are picked apart, so that the choice needs no jump.)
 fn cheaper_of(held: Offer, rival: Offer) -> Offer
-    ensures { result ≡ against cheaper held (some rival) }
+    ensures { result ≡ against cheaper held (Some rival) }
 {
-    let test = signed::below(rival.cost, held.cost);
+    let test = rival.cost < held.cost;
     Offer {
-        from: number_if(test, rival.from, held.from),
-        cost: cost_if(test, rival.cost, held.cost),
+        from: select_unpredictable(test, rival.from, held.from),
+        cost: select_unpredictable(test, rival.cost, held.cost),
     }
 }
 
@@ -105,39 +92,30 @@ fn least_between(
     position: u16,
     row: &[i16],
     other_row: &[i16],
-    start: &[u16],
-    entry: &[u8],
-    run: &[u16],
-    mode: Mode,
-    first: &[u16],
-    last: &[u16],
-    cost: &[i32],
-    next: &[u16],
+    sentence: &Sentence,
+    rows: &Rows,
 ) -> Pair
-    requires lowest { (lowest ≡ get_or first.now position 0) × (lowest ≡ none_link → ⊥) × (position ≡ 0 → ⊥)
-        × (highest ≡ get_or last.now position 0) }
-    requires held_both { (es : List LatticeEntry) × HeldBoth position es row.now other_row.now start.now entry.now run.now mode first.now last.now cost.now next.now }
+    requires lowest { (lowest ≡ get_or rows.now.first.now position 0) × (lowest ≡ none_link → ⊥) × (position ≡ 0 → ⊥)
+        × (highest ≡ get_or rows.now.last.now position 0) }
+    requires held_both { (es : List LatticeEntry) × HeldBoth position es row.now other_row.now (given_by sentence.now) (held rows.now) }
     ensures least { (es : List LatticeEntry)
-        → HeldBoth position es row.now other_row.now start.now entry.now run.now mode first.now last.now cost.now next.now
-        → (some result.one ≡ taken (in_row row.now) es (mark position)) × (some result.other ≡ taken (in_row other_row.now) es (mark position)) }
+        → HeldBoth position es row.now other_row.now (given_by sentence.now) (held rows.now)
+        → (Some result.one ≡ taken (in_row row.now) es (mark position)) × (Some result.other ≡ taken (in_row other_row.now) es (mark position)) }
     ensures near_pair { NearPair position result }
 {
-    let end = highest as usize;
-    let mut at = lowest as usize;
-    let mut one = offer_of(at - 1, position, row, start, entry, run, mode, cost);
-    let mut other = offer_of(at - 1, position, other_row, start, entry, run, mode, cost);
+    let end = usize::from(highest);
+    let mut at = usize::from(lowest);
+    let mut least = offers_of(at - 1, position, row, other_row, sentence, rows);
+    // The links lead from entry to entry, so there is no range to go over.
     while at != end {
-        at = next[at] as usize;
-        one = cheaper_of(
-            one,
-            offer_of(at - 1, position, row, start, entry, run, mode, cost),
-        );
-        other = cheaper_of(
-            other,
-            offer_of(at - 1, position, other_row, start, entry, run, mode, cost),
-        );
+        at = usize::from(rows.next[at]);
+        let rivals = offers_of(at - 1, position, row, other_row, sentence, rows);
+        least = Pair {
+            one: cheaper_of(least.one, rivals.one),
+            other: cheaper_of(least.other, rivals.other),
+        };
     }
-    Pair { one, other }
+    least
 }
 
 // The start mark's offer to a word that starts at 0: the joint alone.
@@ -147,7 +125,7 @@ fn from_start(row: &[i16]) -> Offer
 {
     Offer {
         from: Entry::START,
-        cost: matrix::joint(row, Entry::MARK_ID as usize),
+        cost: matrix::joint(row, Entry::MARK_ID),
     }
 }
 
@@ -156,70 +134,25 @@ pub fn relax(
     position: u16,
     row: &[i16],
     other_row: &[i16],
-    start: &[u16],
-    entry: &[u8],
-    run: &[u16],
-    mode: Mode,
-    first: &[u16],
-    last: &[u16],
-    cost: &[i32],
-    next: &[u16],
-) -> TakenPair
-    requires { (es : List LatticeEntry) × HeldBoth position es row.now other_row.now start.now entry.now run.now mode first.now last.now cost.now next.now }
+    sentence: &Sentence,
+    rows: &Rows,
+) -> Option<Pair>
+    requires { (es : List LatticeEntry) × HeldBoth position es row.now other_row.now (given_by sentence.now) (held rows.now) }
     ensures taken { (es : List LatticeEntry)
-        → HeldBoth position es row.now other_row.now start.now entry.now run.now mode first.now last.now cost.now next.now
-        → (one_of result ≡ taken_of (taken (in_row row.now) es (mark position))) × (other_of result ≡ taken_of (taken (in_row other_row.now) es (mark position))) }
+        → HeldBoth position es row.now other_row.now (given_by sentence.now) (held rows.now)
+        → (one_of result ≡ taken (in_row row.now) es (mark position)) × (other_of result ≡ taken (in_row other_row.now) es (mark position)) }
     ensures near_taken { NearTaken position (one_of result) × NearTaken position (other_of result) }
 {
     if position == 0 {
-        return TakenPair::Each(Pair {
+        return Some(Pair {
             one: from_start(row),
             other: from_start(other_row),
         });
     }
-    let lowest = first[position as usize];
+    let lowest = rows.first[usize::from(position)];
     if lowest == Entry::NONE {
-        return TakenPair::NoPair;
+        return None;
     }
-    TakenPair::Each(least_between(
-        lowest,
-        last[position as usize],
-        position,
-        row,
-        other_row,
-        start,
-        entry,
-        run,
-        mode,
-        first,
-        last,
-        cost,
-        next,
-    ))
-}
-
-// What the one of the two takes. (Read field by field: a copied offer would be packed into one number and taken apart again.)
-pub fn one_of(pair: TakenPair) -> Taken
-    ensures { result ≡ one_of pair }
-{
-    match pair {
-        TakenPair::Each(offers) => Taken::Least(Offer {
-            from: offers.one.from,
-            cost: offers.one.cost,
-        }),
-        TakenPair::NoPair => Taken::Nothing,
-    }
-}
-
-// What the other takes.
-pub fn other_of(pair: TakenPair) -> Taken
-    ensures { result ≡ other_of pair }
-{
-    match pair {
-        TakenPair::Each(offers) => Taken::Least(Offer {
-            from: offers.other.from,
-            cost: offers.other.cost,
-        }),
-        TakenPair::NoPair => Taken::Nothing,
-    }
+    let highest = rows.last[usize::from(position)];
+    Some(least_between(lowest, highest, position, row, other_row, sentence, rows))
 }

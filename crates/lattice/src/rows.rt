@@ -2,107 +2,85 @@
 ghost use Rattle.std.specs.Prelude.{◌≡◌, suc, ◌<◌, length, replicate};
 ghost use Rattle.ground.specs.Entry.{none_link};
 ghost use Rattle.ground.specs.Rows.{over};
-ghost use Rattle.lattice.specs.Rows.{rows};
-ghost use Rattle.lattice.specs.Inner.{Linkable, linked_first, linked_last, linked_next, Enterable, EnterableAfter, entered};
+ghost use Rattle.lattice.specs.Rows.{held, SameRows};
+ghost use Rattle.lattice.specs.Inner.{Linkable, linked, Enterable, entered};
 
-use crate::relaxation::{Taken, number_if};
+use crate::relaxation::Offer;
 use ground::entry::Entry;
-use ground::signed;
+use std::hint::select_unpredictable;
 
-// No entry ends at the positions up to n.
+// The five rows, as a caller lends them. First and last have a place for each position, left, cost and next one for each entry.
+#[derive(Drop)]
+pub struct Rows<'a> {
+    pub first: &'a mut [u16],
+    pub last: &'a mut [u16],
+    pub left: &'a mut [u16],
+    pub cost: &'a mut [i32],
+    pub next: &'a mut [u16],
+}
+
+// No entry ends at the positions up to n. (C may lend a row that is longer.)
 pub fn clear(n: usize, row: &mut [u16])
     requires { n < length row.old }
     ensures { row.new ≡ over (replicate (suc n) none_link) row.old }
 {
-    let mut position = 0;
-    while position <= n {
-        row[position] = Entry::NONE;
-        position += 1;
-    }
+    row[..=n].fill(Entry::NONE);
 }
 
 // Entry x becomes the last one that ends at a position, and the next of the last so far, or the first. To link it once more changes nothing. (Which of
 // the two it is cannot be foreseen, so numbers are picked and nothing is jumped over.)
-pub fn link(x: u16, position: usize, first: &mut [u16], last: &mut [u16], next: &mut [u16])
-    requires { Linkable x position first.old last.old next.old }
-    ensures first_after { first.new ≡ linked_first x position last.old first.old }
-    ensures last_after { last.new ≡ linked_last x position last.old }
-    ensures next_after { next.new ≡ linked_next x position last.old next.old }
+pub fn link(x: u16, position: usize, rows: &mut Rows)
+    requires { Linkable x position (held rows.old) }
+    ensures linked { held rows.new ≡ linked x position (held rows.old) }
+    ensures same { SameRows rows.old rows.new }
 {
-    let so_far = last[position];
+    let so_far = rows.last[position];
     let alone = so_far == Entry::NONE;
-    first[position] = number_if(alone, x, first[position]);
-    last[position] = x;
-    next[x as usize] = Entry::NONE;
-    let before = number_if(alone, x, so_far);
-    next[before as usize] = number_if(before == x, Entry::NONE, x);
+    rows.first[position] = select_unpredictable(alone, x, rows.first[position]);
+    rows.last[position] = x;
+    rows.next[usize::from(x)] = Entry::NONE;
+    let before = select_unpredictable(alone, x, so_far);
+    rows.next[usize::from(before)] = select_unpredictable(before == x, Entry::NONE, x);
 }
 
-// Entry x, a word that ends at a position: its left and its cost, and its links if it is reached.
-pub fn enter(
-    x: u16,
-    position: usize,
-    taken: Taken,
-    own_cost: i32,
-    first: &mut [u16],
-    last: &mut [u16],
-    left: &mut [u16],
-    cost: &mut [i32],
-    next: &mut [u16],
-)
-    requires linkable { Linkable x position first.old last.old next.old }
-    requires enterable { Enterable x taken own_cost left.old cost.old }
-    ensures { rows first.new last.new left.new cost.new next.new ≡ entered x position taken own_cost (rows first.old last.old left.old cost.old next.old) }
+// What is written of a word: its number in the lattice, where it ends, what it takes, and its extra and word cost.
+#[derive(Clone, Copy)]
+pub struct NewEntry {
+    pub number: u16,
+    pub end: u16,
+    pub taken: Option<Offer>,
+    pub own_cost: i32,
+}
+
+// One word's entry: its left and its cost, and its links if it is reached.
+pub fn enter(word: NewEntry, rows: &mut Rows)
+    requires { Enterable word.number word.end word.taken word.own_cost (held rows.old) }
+    ensures entered { held rows.new ≡ entered word.number word.end word.taken word.own_cost (held rows.old) }
+    ensures same { SameRows rows.old rows.new }
 {
-    let at = x as usize;
-    match taken {
-        Taken::Nothing => {
-            left[at] = Entry::NONE;
-            let nothing: i32 = 0;
-            cost[at] = nothing;
-            next[at] = Entry::NONE;
+    let at = usize::from(word.number);
+    match word.taken {
+        None => {
+            rows.left[at] = Entry::NONE;
+            rows.cost[at] = 0;
+            rows.next[at] = Entry::NONE;
         }
-        Taken::Least(offer) => {
-            left[at] = offer.from;
-            let sum = signed::add(offer.cost, own_cost);
-            cost[at] = sum;
-            link(x, position, first, last, next);
+        Some(offer) => {
+            rows.left[at] = offer.from;
+            rows.cost[at] = offer.cost + word.own_cost;
+            link(word.number, usize::from(word.end), rows);
         }
     }
 }
 
-// Entry x, and then entry y. (Where both are one, the second time changes nothing.)
-pub fn enter_two(
-    x: u16,
-    position: usize,
-    taken: Taken,
-    own_cost: i32,
-    y: u16,
-    other_position: usize,
-    other_taken: Taken,
-    other_own_cost: i32,
-    first: &mut [u16],
-    last: &mut [u16],
-    left: &mut [u16],
-    cost: &mut [i32],
-    next: &mut [u16],
-)
-    requires linkable { Linkable x position first.old last.old next.old × Enterable x taken own_cost left.old cost.old }
-    requires enterable_after { EnterableAfter y other_position other_taken other_own_cost (entered x position taken own_cost (rows first.old last.old left.old cost.old next.old)) }
-    ensures { rows first.new last.new left.new cost.new next.new
-        ≡ entered y other_position other_taken other_own_cost
-        (entered x position taken own_cost (rows first.old last.old left.old cost.old next.old)) }
+// One word's entry, and then another's. (Where both are one, the second time changes nothing.)
+pub fn enter_two(one: NewEntry, other: NewEntry, rows: &mut Rows)
+    requires enterable { Enterable one.number one.end one.taken one.own_cost (held rows.old) }
+    requires enterable_after { Enterable other.number other.end other.taken other.own_cost (entered one.number one.end one.taken one.own_cost (held rows.old)) }
+    ensures entered { held rows.new
+        ≡ entered other.number other.end other.taken other.own_cost (entered one.number one.end one.taken one.own_cost (held rows.old)) }
+    ensures same { SameRows rows.old rows.new }
 {
-    enter(x, position, taken, own_cost, first, last, left, cost, next);
-    enter(
-        y,
-        other_position,
-        other_taken,
-        other_own_cost,
-        first,
-        last,
-        left,
-        cost,
-        next,
-    );
+    enter(one, rows);
+    enter(other, rows);
 }

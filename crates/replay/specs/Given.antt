@@ -1,9 +1,12 @@
 -- What a job of the list is given: text, start, end, kind, extra, entry and matrix, one behind the other.
-use Rattle.std.specs.Prelude.{ℕ, ◌+◌, ◌*◌, ◌≤◌, List, length, take, drop, ℤ}
+use Rattle.std.specs.Prelude.{ℕ, ◌+◌, ◌*◌, ◌≤◌, ◌≡◌, List, length, take, drop, ℤ}
 use Rattle.ground.specs.Entry.{u16_at}
+use Rattle.ground.specs.Rows.{over}
 use Rattle.checks.specs.Job.{Job, job}
 use Rattle.replay.specs.declared.head.Head.{Head}
-use Rattle.replay.specs.Head.{value_count}
+use Rattle.replay.specs.declared.lent.GivenRows.{GivenRows}
+use Rattle.replay.specs.Head.{value_count, Within}
+use Rattle.replay.specs.Lent.{GivenRoom}
 use Rattle.replay.specs.Numbers.{i16_at, told}
 
 -- Where each begins, and how many bytes all of them have.
@@ -51,10 +54,25 @@ job_with head bytes start end extra matrix =
 abbrev pub job_of : Head → List ℕ → Job
 job_of head bytes = job_with head bytes (starts head bytes) (ends head bytes) (extras head bytes) (joints head bytes)
 
--- The bytes are all there, and rows have room for what they tell.
-pub record Given (head : Head) (bytes start end : List ℕ) (extra matrix : List ℤ) : Type 0 where
+-- The job of a head, its bytes and the rows of numbers that are lent.
+abbrev pub job_lent : Head → List ℕ → GivenRows → Job
+job_lent head bytes rows =
+    job_with head bytes
+    (take head.c rows.start.now) (take head.c rows.end.now)
+    (take head.c rows.extra.now) (take (value_count head) rows.matrix.now)
+
+-- The bytes are all there, and the rows have room for what they tell.
+pub record Given (head : Head) (bytes : List ℕ) (rows : GivenRows) : Type 0 where
   pub all : given_bytes head ≤ length bytes
-  pub starting : head.c ≤ length start
-  pub ending : head.c ≤ length end
-  pub extras : head.c ≤ length extra
-  pub values : value_count head ≤ length matrix
+  pub room : GivenRoom head.c (value_count head) rows
+
+-- So it is, and the job keeps to the limits of the list.
+abbrev pub GivenWithin : Head → List ℕ → GivenRows → Type 0
+GivenWithin head bytes rows = Within head × Given head bytes rows
+
+-- The rows after what the bytes tell is written into them.
+pub record Filled (head : Head) (bytes : List ℕ) (old new : GivenRows) : Type 0 where
+  pub start : new.start.now ≡ over (starts head bytes) old.start.now
+  pub end : new.end.now ≡ over (ends head bytes) old.end.now
+  pub extra : new.extra.now ≡ over (extras head bytes) old.extra.now
+  pub matrix : new.matrix.now ≡ over (joints head bytes) old.matrix.now

@@ -1,13 +1,40 @@
 // The head of a job in the list: thirteen numbers of four bytes, the lowest first. Behind it lie the bytes of text, start, end, kind,
 // extra, entry and matrix, and then those of the ten rows, as the Rust original leaves them.
-ghost use Rattle.std.specs.Prelude.{◌≡◌, true, ◌↔◌, ◌*◌, length};
-ghost use Rattle.replay.specs.Head.{head_bytes, head_of, Within};
+ghost use Rattle.std.specs.Prelude.{◌≡◌, true, ◌↔◌, length};
+ghost use Rattle.replay.specs.Head.{head_bytes, head_of, value_count, Within};
 ghost use Rattle.replay.specs.Given.{given_bytes};
 ghost use Rattle.replay.specs.Same.{recorded_bytes};
 
-use crate::numbers;
+use crate::numbers::Told;
 use ground::answer::Numbers;
 use ground::entry;
+
+// How many bytes a head has.
+pub const HEAD_BYTES: usize = 52;
+
+// The limits of the list: the most bytes of a text.
+pub const TEXT_LIMIT: usize = 512;
+
+// The most characters.
+pub const CHARACTER_LIMIT: usize = 128;
+
+// The most candidates.
+pub const CANDIDATE_LIMIT: usize = 512;
+
+// The most values of a matrix.
+pub const VALUE_LIMIT: usize = 1_024;
+
+// The most places of a row of positions that are compared.
+pub const POSITION_LIMIT: usize = CHARACTER_LIMIT + 1;
+
+// The most of a row of entries.
+pub const ENTRY_LIMIT: usize = CANDIDATE_LIMIT + 2;
+
+// The most bytes that a job is given.
+pub const GIVEN_LIMIT: usize = TEXT_LIMIT + 17 * CANDIDATE_LIMIT + 2 * VALUE_LIMIT;
+
+// The most that record its rows.
+pub const RECORDED_LIMIT: usize = 10 * POSITION_LIMIT + 8 * ENTRY_LIMIT + 9 * CHARACTER_LIMIT;
 
 #[derive(Clone, Copy)]
 pub struct Head {
@@ -24,7 +51,7 @@ pub struct Head {
     pub numbers: Numbers,
 }
 
-// The recorded answer; its place is 0.
+// The recorded answer; its place is 0. (No From, nor below: each asks for just so many bytes.)
 fn numbers_of(bytes: &[u8]) -> Numbers
     requires { length bytes.now ≡ head_bytes }
     ensures { result ≡ Rattle.replay.specs.Head.numbers_in bytes.now }
@@ -33,73 +60,61 @@ fn numbers_of(bytes: &[u8]) -> Numbers
         number: entry::four(bytes, 40),
         place: 0,
         count: entry::four(bytes, 44),
-        cost: numbers::four_signed(bytes, 48),
+        cost: i32::read(bytes, 48),
     }
 }
 
-pub fn of(bytes: &[u8]) -> Head
-    requires { length bytes.now ≡ head_bytes }
-    ensures { result ≡ head_of bytes.now }
-{
-    let numbers = numbers_of(bytes);
-    Head {
-        text: entry::four(bytes, 0),
-        n: entry::four(bytes, 4),
-        c: entry::four(bytes, 8),
-        height: entry::four(bytes, 12),
-        width: entry::four(bytes, 16),
-        mode: entry::four(bytes, 20),
-        kanji_threshold: entry::four(bytes, 24),
-        kanji_price: entry::four(bytes, 28),
-        other_threshold: entry::four(bytes, 32),
-        other_price: entry::four(bytes, 36),
-        numbers,
+impl Head {
+    pub fn of(bytes: &[u8]) -> Head
+        requires { length bytes.now ≡ head_bytes }
+        ensures { result ≡ head_of bytes.now }
+    {
+        Head {
+            text: entry::four(bytes, 0),
+            n: entry::four(bytes, 4),
+            c: entry::four(bytes, 8),
+            height: entry::four(bytes, 12),
+            width: entry::four(bytes, 16),
+            mode: entry::four(bytes, 20),
+            kanji_threshold: entry::four(bytes, 24),
+            kanji_price: entry::four(bytes, 28),
+            other_threshold: entry::four(bytes, 32),
+            other_price: entry::four(bytes, 36),
+            numbers: numbers_of(bytes),
+        }
     }
-}
 
-// How many values a matrix has.
-pub fn values(height: u32, width: u32) -> u64
-    ensures { result ≡ height * width }
-{
-    height as u64 * width as u64
-}
+    // How many values the matrix has.
+    pub fn values(self) -> u64
+        ensures { result ≡ value_count self }
+    {
+        u64::from(self.height) * u64::from(self.width)
+    }
 
-// Whether a job keeps to the limits of the list.
-pub fn within(head: Head) -> bool
-    ensures { (result ≡ true) ↔ Within head }
-{
-    if head.text > 512 {
-        return false;
+    // Whether the job keeps to the limits of the list. (A test, and no type: `head_of` says what any bytes tell.)
+    pub fn is_within(self) -> bool
+        ensures { (result ≡ true) ↔ Within self }
+    {
+        self.text as usize <= TEXT_LIMIT
+            && self.n as usize <= CHARACTER_LIMIT
+            && self.c as usize <= CANDIDATE_LIMIT
+            && self.values() <= VALUE_LIMIT as u64
+            && self.numbers.count <= self.n
     }
-    if head.n > 128 {
-        return false;
-    }
-    if head.c > 512 {
-        return false;
-    }
-    if values(head.height, head.width) > 1_024 {
-        return false;
-    }
-    let numbers = head.numbers;
-    if numbers.count > head.n {
-        return false;
-    }
-    true
-}
 
-// How many bytes a job is given.
-pub fn given_bytes(head: Head) -> usize
-    requires { Within head }
-    ensures { result ≡ given_bytes head }
-{
-    head.text as usize + 17 * head.c as usize + 2 * values(head.height, head.width) as usize
-}
+    // How many bytes the job is given.
+    pub fn given_bytes(self) -> usize
+        requires { Within self }
+        ensures { result ≡ given_bytes self }
+    {
+        self.text as usize + 17 * self.c as usize + 2 * self.values() as usize
+    }
 
-// How many bytes record its rows.
-pub fn recorded_bytes(head: Head) -> usize
-    requires { Within head }
-    ensures { result ≡ recorded_bytes head }
-{
-    let recorded = head.numbers;
-    10 * (head.n as usize + 1) + 8 * (head.c as usize + 2) + 9 * recorded.count as usize
+    // How many bytes record its rows.
+    pub fn recorded_bytes(self) -> usize
+        requires { Within self }
+        ensures { result ≡ recorded_bytes self }
+    {
+        10 * (self.n as usize + 1) + 8 * (self.c as usize + 2) + 9 * self.numbers.count as usize
+    }
 }

@@ -1,71 +1,35 @@
 // One job of the list: what its bytes give goes through the library, and what comes out is compared with what they record.
-ghost use Rattle.std.specs.Prelude.{◌≡◌, true, ◌↔◌, ◌≤◌, length, take};
-ghost use Rattle.ground.specs.Rows.{over};
-ghost use Rattle.checks.specs.Job.{job_rows};
+ghost use Rattle.std.specs.Prelude.{◌≡◌, true, ◌↔◌, ◌≤◌, length};
 ghost use Rattle.jumelavorp.specs.Promise.{Segment};
-ghost use Rattle.replay.specs.Head.{value_count, Within};
-ghost use Rattle.replay.specs.Given.{starts, ends, extras, joints, job_with, Given};
+ghost use Rattle.replay.specs.Lent.{rows_of, SameGiven, SameWritten};
+ghost use Rattle.replay.specs.Given.{job_lent, GivenWithin, Filled};
 ghost use Rattle.replay.specs.Same.{Room, recorded_bytes, Answered};
 
 use crate::head::Head;
-use crate::{head, rows, same};
+use crate::lent::{GivenRows, WrittenRows};
+use crate::{rows, same};
 use ground::answer::Numbers;
 
 // The rows of numbers that are given, out of their bytes.
-fn widen(
-    head: Head,
-    given: &[u8],
-    start: &mut [u16],
-    end: &mut [u16],
-    extra: &mut [i16],
-    matrix: &mut [i16],
-)
-    requires { Within head × Given head given.now start.old end.old extra.old matrix.old }
-    ensures start_after { start.new ≡ over (starts head given.now) start.old }
-    ensures end_after { end.new ≡ over (ends head given.now) end.old }
-    ensures extra_after { extra.new ≡ over (extras head given.now) extra.old }
-    ensures matrix_after { matrix.new ≡ over (joints head given.now) matrix.old }
+fn widen(head: Head, given: &[u8], numbers: &mut GivenRows)
+    requires { GivenWithin head given.now numbers.old }
+    ensures filled { Filled head given.now numbers.old numbers.new }
+    ensures same { SameGiven numbers.old numbers.new }
 {
     let c = head.c as usize;
     let at = head.text as usize;
-    rows::fill_u16(given, at, c, start);
-    rows::fill_u16(given, at + 2 * c, c, end);
-    rows::fill_i16(given, at + 5 * c, c, extra);
-    let values = head::values(head.height, head.width) as usize;
-    rows::fill_i16(given, at + 17 * c, values, matrix);
+    rows::fill(given, at, c, numbers.start);
+    rows::fill(given, at + 2 * c, c, numbers.end);
+    rows::fill(given, at + 5 * c, c, numbers.extra);
+    let values = head.values() as usize;
+    rows::fill(given, at + 17 * c, values, numbers.matrix);
 }
 
 // The library's answer. Text, kind and entry are lent as they lie among the bytes.
-fn segment(
-    head: Head,
-    given: &[u8],
-    start: &[u16],
-    end: &[u16],
-    extra: &[i16],
-    matrix: &[i16],
-    offset: &mut [u32],
-    run: &mut [u16],
-    first: &mut [u16],
-    last: &mut [u16],
-    left: &mut [u16],
-    cost: &mut [i32],
-    next: &mut [u16],
-    word_offset: &mut [u32],
-    word_id: &mut [u32],
-    word_kind: &mut [u8],
-) -> Numbers
-    requires { Within head × Given head given.now start.now end.now extra.now matrix.now }
-    ensures { Segment
-        (job_with head given.now
-        (take head.c start.now) (take head.c end.now)
-        (take head.c extra.now) (take (value_count head) matrix.now))
-        (job_rows
-        offset.old run.old first.old last.old left.old cost.old next.old
-        word_offset.old word_id.old word_kind.old)
-        result
-        (job_rows
-        offset.new run.new first.new last.new left.new cost.new next.new
-        word_offset.new word_id.new word_kind.new) }
+fn segment(head: Head, given: &[u8], numbers: &GivenRows, rows: &mut WrittenRows) -> Numbers
+    requires { GivenWithin head given.now numbers.now }
+    ensures promise { Segment (job_lent head given.now numbers.now) (rows_of rows.old) result (rows_of rows.new) }
+    ensures same { SameWritten rows.old rows.new }
 {
     let c = head.c as usize;
     let text = head.text as usize;
@@ -73,32 +37,32 @@ fn segment(
     let extras = text + 5 * c;
     let entry = text + 7 * c;
     let values = text + 17 * c;
-    let count = head::values(head.height, head.width) as usize;
+    let count = head.values() as usize;
     jumelavorp::jumelavorp_segment(
         &given[..text],
-        &start[..c],
-        &end[..c],
+        &numbers.start[..c],
+        &numbers.end[..c],
         &given[kind..extras],
-        &extra[..c],
+        &numbers.extra[..c],
         &given[entry..values],
         head.height,
         head.width,
-        &matrix[..count],
+        &numbers.matrix[..count],
         head.mode,
         head.kanji_threshold,
         head.kanji_price,
         head.other_threshold,
         head.other_price,
-        offset,
-        run,
-        first,
-        last,
-        left,
-        cost,
-        next,
-        word_offset,
-        word_id,
-        word_kind,
+        rows.offset,
+        rows.run,
+        rows.first,
+        rows.last,
+        rows.left,
+        rows.cost,
+        rows.next,
+        rows.word_offset,
+        rows.word_id,
+        rows.word_kind,
     )
 }
 
@@ -107,65 +71,17 @@ pub fn replay(
     head: Head,
     given: &[u8],
     recorded: &[u8],
-    start: &mut [u16],
-    end: &mut [u16],
-    extra: &mut [i16],
-    matrix: &mut [i16],
-    offset: &mut [u32],
-    run: &mut [u16],
-    first: &mut [u16],
-    last: &mut [u16],
-    left: &mut [u16],
-    cost: &mut [i32],
-    next: &mut [u16],
-    word_offset: &mut [u32],
-    word_id: &mut [u32],
-    word_kind: &mut [u8],
+    numbers: &mut GivenRows,
+    rows: &mut WrittenRows,
 ) -> bool
-    requires { Within head × Given head given.now start.old end.old extra.old matrix.old
-        × (recorded_bytes head ≤ length recorded.now)
-        × Room head
-        (job_rows
-        offset.old run.old first.old last.old left.old cost.old next.old
-        word_offset.old word_id.old word_kind.old) }
-    ensures { (result ≡ true) ↔
-        Answered head given.now recorded.now
-        (job_rows
-        offset.old run.old first.old last.old left.old cost.old next.old
-        word_offset.old word_id.old word_kind.old) }
+    requires given { GivenWithin head given.now numbers.old }
+    requires recorded { recorded_bytes head ≤ length recorded.now }
+    requires room { Room head (rows_of rows.old) }
+    ensures answered { (result ≡ true) ↔ Answered head given.now recorded.now (rows_of rows.old) }
+    ensures given_same { SameGiven numbers.old numbers.new }
+    ensures written_same { SameWritten rows.old rows.new }
 {
-    widen(head, given, start, end, extra, matrix);
-    let numbers = segment(
-        head,
-        given,
-        start,
-        end,
-        extra,
-        matrix,
-        offset,
-        run,
-        first,
-        last,
-        left,
-        cost,
-        next,
-        word_offset,
-        word_id,
-        word_kind,
-    );
-    same::same(
-        head,
-        recorded,
-        numbers,
-        offset,
-        run,
-        first,
-        last,
-        left,
-        cost,
-        next,
-        word_offset,
-        word_id,
-        word_kind,
-    )
+    widen(head, given, numbers);
+    let answer = segment(head, given, numbers, rows);
+    same::same(head, recorded, answer, rows)
 }

@@ -1,37 +1,32 @@
-// Reading the list, and saying what came of it.
-ghost use Rattle.std.specs.Prelude.{◌≡◌, ◌≤◌, length};
-ghost use Rattle.replay.specs.Head.{Within};
+// Reading the list.
+ghost use Rattle.std.specs.Prelude.{◌≤◌, length, take, IfOk, OnOk, IfSome, Some, codes};
+ghost use Rattle.std.specs.Io.KnownBytes.{Consumes};
+ghost use Rattle.replay.specs.Lent.{rows_of, AnyGivenRoom, AnyRoom, SameGiven, SameWritten};
+ghost use Rattle.replay.specs.List.{NextHead, Replayed};
 
-use crate::head::Head;
-use crate::{head, job};
-use std::io;
-use std::io::{Print, Read};
+use crate::head::{GIVEN_LIMIT, HEAD_BYTES, Head, RECORDED_LIMIT};
+use crate::job;
+use crate::lent::{GivenRows, WrittenRows};
+use std::fmt;
+use std::io::Read;
 
-// What stands next in the list.
-#[derive(Clone, Copy)]
-pub enum Next {
-    // Nothing.
-    End,
-    // No whole head, or one beyond the limits.
-    Broken,
-    Job(Head),
+// The list is cut short in its next job, or that is beyond the limits.
+#[derive(Clone, Copy, Debug, PartialEq, Eq)]
+pub struct Broken;
+
+impl fmt::Display for Broken {
+    ghost output = { λ _. Some (codes "the list is broken") };
+
+    fn fmt<W: fmt::Write>(&self, f: &mut fmt::Formatter<W>) -> fmt::Result {
+        write!(f, "the list is broken")
+    }
 }
 
-// What came of the next job.
-#[derive(Clone, Copy)]
-pub enum Outcome {
-    // There was none.
-    End,
-    // The list is cut short in it, or it is beyond the limits.
-    Broken,
-    // The library's answer is the recorded one.
-    Same,
-    Differs,
-}
-
-// Reads until the bytes are full, the list ends or a read fails, and says how many came.
+// Reads until the bytes are full, the list ends or a read fails, and says how many came. (A loop by hand: `read_exact` does not say how many
+// came, and reads again after an interrupted read, where the list ends here.)
 fn read_full<R: Read>(list: &mut R, bytes: &mut [u8]) -> usize
-    ensures { result ≤ length bytes.new }
+    ensures within { result ≤ length bytes.new }
+    ensures read { Consumes (R.remaining list.old) (R.remaining list.new) (take result bytes.new) }
 {
     let mut done = 0;
     while done < bytes.len() {
@@ -43,97 +38,60 @@ fn read_full<R: Read>(list: &mut R, bytes: &mut [u8]) -> usize
     done
 }
 
-fn next_head<R: Read>(list: &mut R) -> Next
-    ensures { (head : Head) → result ≡ Next.Job head → Within head }
+// The next bytes of the list, as many as there is room for.
+fn fetch<R: Read>(list: &mut R, bytes: &mut [u8]) -> Result<(), Broken>
+    ensures { OnOk result (Consumes (R.remaining list.old) (R.remaining list.new) bytes.new) }
 {
-    let mut bytes = [0u8; 52];
+    if read_full(list, bytes) < bytes.len() {
+        return Err(Broken);
+    }
+    Ok(())
+}
+
+// The head that stands next, or none at the end of the list.
+fn next_head<R: Read>(list: &mut R) -> Result<Option<Head>, Broken>
+    ensures { IfOk result (λ next. IfSome next (NextHead (R.remaining list.old) (R.remaining list.new))) }
+{
+    let mut bytes = [0u8; HEAD_BYTES];
     let got = read_full(list, &mut bytes);
     if got == 0 {
-        return Next::End;
+        return Ok(None);
     }
-    if got < 52 {
-        return Next::Broken;
+    if got < HEAD_BYTES {
+        return Err(Broken);
     }
-    let head = head::of(&bytes);
-    if head::within(head) {
-        Next::Job(head)
+    let head = Head::of(&bytes);
+    if head.is_within() {
+        Ok(Some(head))
     } else {
-        Next::Broken
+        Err(Broken)
     }
 }
 
-// The next bytes of the list, and whether there were so many.
-fn fetch<R: Read>(list: &mut R, bytes: &mut [u8], count: usize) -> bool
-    requires { count ≤ length bytes.old }
-{
-    read_full(list, &mut bytes[..count]) == count
-}
-
-// One job: its head is read, and the bytes that it announces.
+// One job: its head is read, and the bytes that it announces. Says whether the library's answer is the recorded one, or that there was no job.
 pub fn replay_next<R: Read>(
     list: &mut R,
-    given: &mut [u8; 11_264],
-    recorded: &mut [u8; 6_554],
-    start: &mut [u16; 512],
-    end: &mut [u16; 512],
-    extra: &mut [i16; 512],
-    matrix: &mut [i16; 1_024],
-    offset: &mut [u32; 129],
-    run: &mut [u16; 129],
-    first: &mut [u16; 129],
-    last: &mut [u16; 129],
-    left: &mut [u16; 514],
-    cost: &mut [i32; 514],
-    next: &mut [u16; 514],
-    word_offset: &mut [u32; 128],
-    word_id: &mut [u32; 128],
-    word_kind: &mut [u8; 128],
-) -> Outcome {
-    let head = match next_head(list) {
-        Next::End => return Outcome::End,
-        Next::Broken => return Outcome::Broken,
-        Next::Job(head) => head,
+    given: &mut [u8; GIVEN_LIMIT],
+    recorded: &mut [u8; RECORDED_LIMIT],
+    numbers: &mut GivenRows,
+    rows: &mut WrittenRows,
+) -> Result<Option<bool>, Broken>
+    requires given_room { AnyGivenRoom numbers.old }
+    requires room { AnyRoom (rows_of rows.old) }
+    ensures replayed { IfOk result (λ next. IfSome next (Replayed (R.remaining list.old) (R.remaining list.new) (rows_of rows.old))) }
+
+    // The rows are the same, and keep their room, so that the next job can have them.
+    ensures given_same { SameGiven numbers.old numbers.new }
+    ensures written_same { SameWritten rows.old rows.new }
+    ensures given_kept { AnyGivenRoom numbers.new }
+    ensures kept { AnyRoom (rows_of rows.new) }
+{
+    let Some(head) = next_head(list)? else {
+        return Ok(None);
     };
-    if !fetch(list, given, head::given_bytes(head)) {
-        return Outcome::Broken;
-    }
-    if !fetch(list, recorded, head::recorded_bytes(head)) {
-        return Outcome::Broken;
-    }
-    let same = job::replay(
-        head,
-        given,
-        recorded,
-        start,
-        end,
-        extra,
-        matrix,
-        offset,
-        run,
-        first,
-        last,
-        left,
-        cost,
-        next,
-        word_offset,
-        word_id,
-        word_kind,
-    );
-    if same {
-        Outcome::Same
-    } else {
-        Outcome::Differs
-    }
-}
-
-pub fn say_end<R: Print>(rt: &R, jobs: u64, differ: u64) -> io::Result<()> {
-    println!(rt; "{jobs} jobs replayed, {differ} differ")
-}
-
-pub fn say_differs<R: Print>(rt: &R, job: u64) -> io::Result<()> {
-    println!(rt; "job {job} differs")
-}
-
-pub fn say_broken<R: Print>(rt: &R, job: u64) -> io::Result<()> {
-    println!(rt; "the list is broken at job {job}")
+    let given = &mut given[..head.given_bytes()];
+    let recorded = &mut recorded[..head.recorded_bytes()];
+    fetch(list, given)?;
+    fetch(list, recorded)?;
+    Ok(Some(job::replay(head, given, recorded, numbers, rows)))
 }

@@ -4,12 +4,18 @@
 
 mod head;
 mod job;
+mod lent;
 mod list;
 mod numbers;
 mod rows;
 mod same;
 
-use list::Outcome;
+use head::{
+    CANDIDATE_LIMIT, CHARACTER_LIMIT, ENTRY_LIMIT, GIVEN_LIMIT, POSITION_LIMIT, RECORDED_LIMIT,
+    VALUE_LIMIT,
+};
+use lent::{GivenRows, WrittenRows};
+use list::Broken;
 use std::io;
 
 // A proved loop has to end, and nothing says that a list does: no list has so many jobs.
@@ -18,52 +24,43 @@ const JOB_LIMIT: u64 = 1_000_000_000;
 // Each job has the rows as the job before left them. Jobs are numbered from 0.
 fn main(rt: HostRuntime) -> io::Result<()> {
     let mut stdin = rt.stdin();
-    let mut given = [0u8; 11_264];
-    let mut recorded = [0u8; 6_554];
-    let mut start = [0u16; 512];
-    let mut end = [0u16; 512];
-    let mut extra = [0i16; 512];
-    let mut matrix = [0i16; 1_024];
-    let mut offset = [0u32; 129];
-    let mut run = [0u16; 129];
-    let mut first = [0u16; 129];
-    let mut last = [0u16; 129];
-    let mut left = [0u16; 514];
-    let mut cost = [0i32; 514];
-    let mut next = [0u16; 514];
-    let mut word_offset = [0u32; 128];
-    let mut word_id = [0u32; 128];
-    let mut word_kind = [0u8; 128];
+    let mut given = [0; GIVEN_LIMIT];
+    let mut recorded = [0; RECORDED_LIMIT];
+    let mut numbers = GivenRows {
+        start: &mut [0; CANDIDATE_LIMIT],
+        end: &mut [0; CANDIDATE_LIMIT],
+        extra: &mut [0; CANDIDATE_LIMIT],
+        matrix: &mut [0; VALUE_LIMIT],
+    };
+    let mut rows = WrittenRows {
+        offset: &mut [0; POSITION_LIMIT],
+        run: &mut [0; POSITION_LIMIT],
+        first: &mut [0; POSITION_LIMIT],
+        last: &mut [0; POSITION_LIMIT],
+        left: &mut [0; ENTRY_LIMIT],
+        cost: &mut [0; ENTRY_LIMIT],
+        next: &mut [0; ENTRY_LIMIT],
+        word_offset: &mut [0; CHARACTER_LIMIT],
+        word_id: &mut [0; CHARACTER_LIMIT],
+        word_kind: &mut [0; CHARACTER_LIMIT],
+    };
     let mut differ: u64 = 0;
     for job in 0..JOB_LIMIT {
-        let outcome = list::replay_next(
+        match list::replay_next(
             &mut stdin,
             &mut given,
             &mut recorded,
-            &mut start,
-            &mut end,
-            &mut extra,
-            &mut matrix,
-            &mut offset,
-            &mut run,
-            &mut first,
-            &mut last,
-            &mut left,
-            &mut cost,
-            &mut next,
-            &mut word_offset,
-            &mut word_id,
-            &mut word_kind,
-        );
-        match outcome {
-            Outcome::End => return list::say_end(&rt, job, differ),
-            Outcome::Broken => return list::say_broken(&rt, job),
-            Outcome::Same => {}
-            Outcome::Differs => {
-                list::say_differs(&rt, job)?;
+            &mut numbers,
+            &mut rows,
+        ) {
+            Ok(Some(true)) => {}
+            Ok(Some(false)) => {
+                println!(rt; "job {job} differs")?;
                 differ += 1;
             }
+            Ok(None) => return println!(rt; "{job} jobs replayed, {differ} differ"),
+            Err(broken) => return println!(rt; "{broken} at job {job}"),
         }
     }
-    list::say_broken(&rt, JOB_LIMIT)
+    println!(rt; "{Broken} at job {JOB_LIMIT}")
 }

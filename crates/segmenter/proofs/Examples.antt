@@ -1,7 +1,6 @@
 -- The claim of specs/Examples: every case computes. Assumes nothing.
 use mathlib.Core.Path.{refl}
 use mathlib.Core.List.{sum}
-use mathlib.Core.Option.{or_else}
 use Rattle.ground.specs.Entry.{entry_of, entry_at}
 use Rattle.ground.specs.Matrix.{joint}
 use Rattle.ground.specs.Charge.{charge}
@@ -16,7 +15,7 @@ use Rattle.segmenter.specs.Segment.{worked, segment}
 use Rattle.segmenter.specs.Examples.{listed, Hold, CostsHold}
 
 pub examples : Hold
-unfolding entry_of entry_at joint charge leads lead_row all_later six_bits letter_at letters_in letters sizes offsets_from runs up_from candidates_to offers least grow lattice first_at last_at firsts lasts lefts costs nexts_from walk_from walk_back or_else first_refused refused worked segment listed
+unfolding entry_of entry_at joint charge leads lead_row all_later six_bits letter_at letters_in letters sizes offsets_from runs up_from candidates_to offers least grow lattice first_at last_at firsts lasts lefts costs nexts_from walk_from walk_back first_refused refused worked segment listed
 examples = refl
 
 pub costs_hold : CostsHold

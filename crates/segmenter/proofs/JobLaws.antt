@@ -3,17 +3,17 @@ use Prim.Native.Nat.{ℕ, suc, ◌≤◌}
 use mathlib.Core.Path.{◌≡◌, refl, ap, ◌∙◌, sym, subst}
 use mathlib.Core.Bool.{Bool, true, false, true≢false}
 use mathlib.Core.List.{List, map}
-use mathlib.Core.Option.{Option, none, some, some-ne-none}
+use Rattle.std.specs.Prelude.{Option, None, Some, Err}
 use native.Mathlib.Omega.{arith}
 use lib.ListN.{length, get_or, length-map}
 use lib.IntN.{ℤ}
 use Rattle.ground.specs.Rows.{over}
 use Rattle.ground.specs.Entry.{entry_at, none_link}
-use Rattle.ground.specs.Answer.{numbers_of}
+use Rattle.ground.specs.Answer.{Answer, work_done, numbers_of}
 use Rattle.ground.specs.Text.{letters, offsets, runs}
 use Rattle.ground.specs.declared.text.Letter.{Letter}
-use Rattle.ground.specs.declared.answer.Answer.{Answer}
-use Rattle.ground.specs.declared.answer.Answer.TheVariants.{Done, NoPath}
+use Rattle.ground.specs.declared.answer.Refusal.{Refusal}
+use Rattle.ground.specs.declared.answer.Refusal.TheVariants.{NoPath}
 use Rattle.ground.proofs.MatrixLaws.{row_fits}
 use Rattle.ground.proofs.RowLaws.{over_length, runs_length, offsets_length}
 use Rattle.lattice.specs.Words.{Given, count}
@@ -57,18 +57,22 @@ accepted j i c =
 
 -- ---- the job, by its tests
 
+-- a refusal is none
+some_none : (why : Refusal) → ◌≡◌ {A = Option Refusal} (Some why) None → ⊥
+some_none why e = let z : ◌≡◌ {A = ℕ} 0 1 = cc in omega arith
+
 -- a refusal, and nothing changes
-pub refused_job : (j : Job) (r : JobRows) (answer : Answer) → refused j r ≡ some answer → outcome answer r ≡ segment j r
+pub refused_job : (j : Job) (r : JobRows) (why : Refusal) → refused j r ≡ Some why → outcome (Err why) r ≡ segment j r
 unfolding segment
-refused_job j r answer e = rw e
+refused_job j r why e = rw e
 
 -- and of such a job nothing more is promised
-pub refused_leaves : (j : Job) (r : JobRows) (answer : Answer) → refused j r ≡ some answer
-    → (outcome answer r ≡ segment j r) × Ranged j r
-refused_leaves j r answer e = (refused_job j r answer e, λ q. absurd (some-ne-none answer (sym e ∙ q)))
+pub refused_leaves : (j : Job) (r : JobRows) (why : Refusal) → refused j r ≡ Some why
+    → (outcome (Err why) r ≡ segment j r) × Ranged j r
+refused_leaves j r why e = (refused_job j r why e, λ q. absurd (some_none why (sym e ∙ q)))
 
 -- otherwise the work
-pub passed_job : (j : Job) (r : JobRows) → refused j r ≡ none → worked (letters j.text) j.kind (given_of j) r ≡ segment j r
+pub passed_job : (j : Job) (r : JobRows) → refused j r ≡ None → worked (letters j.text) j.kind (given_of j) r ≡ segment j r
 unfolding segment
 passed_job j r e = rw e
 
@@ -80,8 +84,8 @@ words_few n g left t = go t (walk_back g.start g.end left n) refl
   where
     go : (t : Bool) (walked : Option (List ℕ)) → walk_back g.start g.end left n ≡ walked → length (words_by t walked) ≤ n
     go false walked e = omega arith
-    go true none e = omega arith
-    go true (some words) e = words_fit g.start g.end left n words e
+    go true None e = omega arith
+    go true (Some words) e = words_fit g.start g.end left n words e
 
 module _ (ls : List Letter) (kind : List ℕ) (g : Given) (r : JobRows) where
   -- a row that is told of the words keeps its length
@@ -124,10 +128,10 @@ record Filling (j : Job) (r : JobRows) (o : Outcome) : Type 0 where
 
 -- and how it ends
 data Ends (j : Job) (r : JobRows) (o : Outcome) : Type 0 where
-  no_path_lem : (end_mark j).reached ≡ false → o.answer ≡ NoPath → SameWords r o.rows → Ends j r o
+  no_path_lem : (end_mark j).reached ≡ false → o.answer ≡ Err NoPath → SameWords r o.rows → Ends j r o
   path : (found : List ℕ) → (end_mark j).reached ≡ true
-      → walk_back j.start j.end (lefts (lattice_of j)) (character_count j) ≡ some found
-      → o.answer ≡ Done (length found) (end_mark j).cost → Written j found r o.rows → Ends j r o
+      → walk_back j.start j.end (lefts (lattice_of j)) (character_count j) ≡ Some found
+      → o.answer ≡ work_done (length found) (end_mark j).cost → Written j found r o.rows → Ends j r o
 
 filling : (j : Job) (r : JobRows) → RowsPassed (character_count j) (candidate_count j) r → Filling j r (worked (letters j.text) j.kind (given_of j) r)
 unfolding worked
@@ -143,7 +147,7 @@ filling j r h =
 none_told : (tell : ℕ → ℕ) (row : List ℕ) (t : Bool) (walked : Option (List ℕ)) → t ≡ false → over (map tell (words_by t walked)) row ≡ row
 none_told tell row t walked e = rw e
 
-found_told : (tell : ℕ → ℕ) (row : List ℕ) (t : Bool) (walked : Option (List ℕ)) (found : List ℕ) → t ≡ true → walked ≡ some found
+found_told : (tell : ℕ → ℕ) (row : List ℕ) (t : Bool) (walked : Option (List ℕ)) (found : List ℕ) → t ≡ true → walked ≡ Some found
     → over (map tell (words_by t walked)) row ≡ over (map tell found) row
 found_told tell row t walked found e f = rw (e, f)
 
@@ -186,15 +190,15 @@ over_left j left old e =
 
 -- any job: refused with nothing changed, or worked to one of these ends
 data Comes (j : Job) (r : JobRows) : Type 0 where
-  early : (answer : Answer) → refused j r ≡ some answer → segment j r ≡ outcome answer r → Comes j r
-  late : refused j r ≡ none → Accepted (character_count j) (given_of j) → Filling j r (segment j r) → Ends j r (segment j r) → Comes j r
+  early : (why : Refusal) → refused j r ≡ Some why → segment j r ≡ outcome (Err why) r → Comes j r
+  late : refused j r ≡ None → Accepted (character_count j) (given_of j) → Filling j r (segment j r) → Ends j r (segment j r) → Comes j r
 
 comes : (j : Job) (r : JobRows) → Comes j r
 comes j r = go (refused j r) refl
   where
-    go : (o : Option Answer) → refused j r ≡ o → Comes j r
-    go (some answer) e = early answer e (sym (refused_job j r answer e))
-    go none e =
+    go : (o : Option Refusal) → refused j r ≡ o → Comes j r
+    go (Some why) e = early why e (sym (refused_job j r why e))
+    go None e =
         let p = passed j r e in
         let ok = accepted j p.inputs p.candidates in
         let same = passed_job j r e in
@@ -204,32 +208,32 @@ comes j r = go (refused j r) refl
 pub answers : (j : Job) (r : JobRows) → Answers j r
 answers j r = go (comes j r)
   where
-    passes : (answer : Answer) → refused j r ≡ none → refused j r ≡ some answer → ⊥
-    passes answer e f = some-ne-none answer (sym f ∙ e)
+    passes : (why : Refusal) → refused j r ≡ None → refused j r ≡ Some why → ⊥
+    passes why e f = some_none why (sym f ∙ e)
 
     number : {answer : Answer} → (segment j r).answer ≡ answer → (numbers_of (segment j r).answer).number ≡ (numbers_of answer).number
     number e = ap (λ (answer : Answer). (numbers_of answer).number) e
 
     go : Comes j r → Answers j r
-    go (early answer e same) =
-        let here : (segment j r).answer ≡ answer = ap (λ (o : Outcome). o.answer) same in
-        let t = tested j r answer e in
-        let place : (numbers_of (segment j r).answer).place ≡ (numbers_of answer).place = ap (λ (answer : Answer). (numbers_of answer).place) here in
-        let no_path_lem : (segment j r).answer ≡ NoPath → ⊥ = λ q. omega (arith, number here, number q, t.high) in
-        let no_words : (count : ℕ) (cost : ℤ) → (segment j r).answer ≡ Done count cost → ⊥ = λ count cost q. omega (arith, number here, number q, t.low) in
+    go (early why e same) =
+        let here : (segment j r).answer ≡ Err why = ap (λ (o : Outcome). o.answer) same in
+        let t = tested j r why e in
+        let place : (numbers_of (segment j r).answer).place ≡ (numbers_of (Err why)).place = ap (λ (answer : Answer). (numbers_of answer).place) here in
+        let no_path_lem : (segment j r).answer ≡ Err NoPath → ⊥ = λ q. omega (arith, number here, number q, t.high) in
+        let no_words : (count : ℕ) (cost : ℤ) → (segment j r).answer ≡ work_done count cost → ⊥ = λ count cost q. omega (arith, number here, number q, t.low) in
         record {
-          first_test = λ other f. same ∙ ap (λ (a : Answer). outcome a r) (let q : answer ≡ other = cc in q);
+          first_test = λ other f. same ∙ ap (λ (a : Refusal). outcome (Err a) r) (let q : why ≡ other = cc in q);
           unchanged = λ low high. ap (λ (o : Outcome). o.rows) same;
           offset_place = λ q. omega (arith, place, t.within (sym (number here) ∙ q));
           candidate_place = λ low high. omega (arith, place, t.listed (omega (arith, number here)));
-          rules = λ f. absurd (passes answer f e);
+          rules = λ f. absurd (passes why f e);
           row_rules = row_rules_lem (character_count j) (lattice_of j);
-          offset = λ f. absurd (passes answer f e);
-          run = λ f. absurd (passes answer f e);
-          filled = λ f. absurd (passes answer f e);
-          no_path = (λ q. absurd (no_path_lem q), λ h. absurd (passes answer h.0 e));
+          offset = λ f. absurd (passes why f e);
+          run = λ f. absurd (passes why f e);
+          filled = λ f. absurd (passes why f e);
+          no_path = (λ q. absurd (no_path_lem q), λ h. absurd (passes why h.0 e));
           no_words = λ q. absurd (no_path_lem q);
-          done = (λ d. absurd (no_words d.0 d.1 d.2), λ h. absurd (passes answer h.0 e));
+          done = (λ d. absurd (no_words d.0 d.1 d.2), λ h. absurd (passes why h.0 e));
           cost = λ count cost q. absurd (no_words count cost q);
           words = λ count cost q. absurd (no_words count cost q);
           never_broken = λ q. omega (arith, number here, number q, t.high);
@@ -239,7 +243,7 @@ answers j r = go (comes j r)
         }
     go (late e ok f (no_path_lem t a w)) =
         record {
-          first_test = λ answer q. absurd (passes answer e q);
+          first_test = λ why q. absurd (passes why e q);
           unchanged = λ low high. absurd (omega (arith, number a));
           offset_place = λ q. absurd (omega (arith, number a));
           candidate_place = λ low high. absurd (omega (arith, number a));
@@ -258,7 +262,7 @@ answers j r = go (comes j r)
         }
     go (late e ok f (path found t walked a w)) =
         record {
-          first_test = λ answer q. absurd (passes answer e q);
+          first_test = λ why q. absurd (passes why e q);
           unchanged = λ low high. absurd (omega (arith, number a));
           offset_place = λ q. absurd (omega (arith, number a));
           candidate_place = λ low high. absurd (omega (arith, number a));
@@ -270,10 +274,10 @@ answers j r = go (comes j r)
           no_path = (λ q. absurd (omega (arith, number a, number q)), λ h. absurd (true≢false (sym t ∙ h.1)));
           no_words = λ q. absurd (omega (arith, number a, number q));
           done = (λ d. (e, t), λ h. (length found, (end_mark j).cost, a));
-          cost = λ count cost q. let same : Done count cost ≡ Done (length found) (end_mark j).cost = sym q ∙ a in cc;
+          cost = λ count cost q. ap (λ (answer : Answer). (numbers_of answer).cost) (sym q ∙ a);
           words = λ count cost q.
-              let same : Done count cost ≡ Done (length found) (end_mark j).cost = sym q ∙ a in
-              (found, over_left j (segment j r).rows.left r.left f.filled.left ∙ walked, cc, w);
+              let same : count ≡ length found = ap (λ (answer : Answer). (numbers_of answer).count) (sym q ∙ a) in
+              (found, over_left j (segment j r).rows.left r.left f.filled.left ∙ walked, same, w);
           never_broken = λ q. omega (arith, number a, number q);
           lengths = f.lengths;
         }

@@ -2,3 +2,5 @@
 pub mod Segment
 pub mod Answers
 pub mod Examples
+-- Inner, no part of document 01:
+pub mod Lent

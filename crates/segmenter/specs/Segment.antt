@@ -1,10 +1,12 @@
 -- Document 01: the whole job. Its answer and every row at exit, from its inputs and the rows at entry.
 use Rattle.std.specs.Prelude.{ℕ, suc, List, length}
-use Rattle.std.proofs.Math.Option.{Option, none, some}
+use Rattle.std.specs.Prelude.{Option, None, Some, Err}
 use Rattle.ground.specs.Rows.{over}
 use Rattle.ground.specs.Text.{letters, offsets, runs}
 use Rattle.ground.specs.declared.text.Letter.{Letter}
-use Rattle.ground.specs.declared.answer.Answer.{Answer}
+use Rattle.ground.specs.Answer.{Answer}
+use Rattle.ground.specs.declared.answer.Refusal.{Refusal}
+use Rattle.ground.specs.declared.charge.Mode.{Mode}
 use Rattle.lattice.specs.Words.{Given, given, count}
 use Rattle.lattice.specs.Lattice.{entry_numbered, lattice}
 use Rattle.lattice.specs.Rows.{firsts, lasts, lefts, costs, nexts}
@@ -47,18 +49,19 @@ worked ls kind g r =
 
 -- ---- the whole job
 
--- What the lattice reads of a job: the kanji runs are those of its text.
+-- What the lattice reads of a job in a mode: the kanji runs are those of its text.
+abbrev pub given_in : Job → Mode → Given
+given_in j mode =
+    given j.start j.end j.extra j.entry (runs (letters j.text)) mode j.matrix j.width
+
+-- The same in the job's own mode.
 abbrev pub given_of : Job → Given
-given_of j =
-    given j.start j.end j.extra j.entry (runs (letters j.text))
-    (mode_of j.mode j.kanji_threshold j.kanji_price j.other_threshold j.other_price)
-    j.matrix
-    j.width
+given_of j = given_in j (mode_of j.mode j.kanji_threshold j.kanji_price j.other_threshold j.other_price)
 
 -- A refusal by a test changes nothing.
-abbrev pub unless : Option Answer → JobRows → Outcome → Outcome
-unless (some answer) r otherwise = outcome answer r
-unless none r otherwise = otherwise
+abbrev pub unless : Option Refusal → JobRows → Outcome → Outcome
+unless (Some why) r otherwise = outcome (Err why) r
+unless None r otherwise = otherwise
 
 -- The tests, then the work.
 unfoldable pub segment : Job → JobRows → Outcome

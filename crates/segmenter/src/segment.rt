@@ -1,207 +1,111 @@
 // The public operation "the whole job".
-ghost use Rattle.std.specs.Prelude.{◌≡◌, false, length};
-ghost use Rattle.ground.specs.Text.{letters, runs};
+ghost use Rattle.std.specs.Prelude.{◌≡◌, false, length, take, ◌+◌};
 ghost use Rattle.ground.specs.Characters.{Sound};
-ghost use Rattle.lattice.specs.Words.{given};
+ghost use Rattle.ground.specs.Text.{letters};
 ghost use Rattle.lattice.specs.Lattice.{lattice};
+ghost use Rattle.lattice.specs.Rows as lattice_rows;
 ghost use Rattle.lattice.specs.Accepted.{Accepted};
 ghost use Rattle.lattice.specs.Size.{AllInRange};
-ghost use Rattle.checks.specs.Job.{job, job_rows};
+ghost use Rattle.checks.specs.Job.{told, candidate_count};
 ghost use Rattle.checks.specs.Checks.{short_row};
-ghost use Rattle.segmenter.specs.Segment.{outcome, worked};
+ghost use Rattle.walk.specs.Inner as word_rows;
+ghost use Rattle.segmenter.specs.Segment.{outcome, given_in, worked};
 ghost use Rattle.segmenter.specs.Answers.{Ranged};
+ghost use Rattle.segmenter.specs.Lent.{ten, Finishable, Finished};
 
-use checks::checks::{Inputs, Verdict, check_candidates, check_inputs, short_row};
-use ground::answer::Answer;
-use ground::charge::Mode;
+use checks::checks::{Passed, RowLengths, check_candidates, check_inputs, short_row};
+use checks::job::Job;
+use ground::answer::{Answer, Refusal};
+use ground::candidates::Candidates;
 use ground::text;
 use lattice::forward;
+use lattice::rows::Rows;
+use lattice::sentence::Sentence;
 use walk::words;
+use walk::words::WordRows;
+
+// The words of a lattice that is filled, by the left row's entries and the end mark's cost.
+fn finish(
+    n: usize,
+    candidates: &Candidates,
+    offset: &[u32],
+    rows: &Rows,
+    words: &mut WordRows,
+) -> Answer
+    requires { Finishable n candidates.now offset.now rows.now words.old }
+    ensures finished { Finished n candidates.now offset.now rows.now words.old result words.new }
+    ensures same_words { word_rows.SameRows words.old words.new }
+{
+    let mark = candidates.start.len() + 1;
+    words::words(
+        n,
+        candidates,
+        offset,
+        &rows.left[..=mark],
+        rows.cost[mark],
+        words,
+    )
+}
 
 // The work of a job that passed its tests: the characters, the lattice, the words.
 fn work(
-    text: &[u8],
-    n: usize,
-    start: &[u16],
-    end: &[u16],
-    kind: &[u8],
-    extra: &[i16],
-    entry: &[u8],
-    mode: Mode,
-    matrix: &[i16],
-    width: usize,
+    job: &Job,
+    passed: Passed,
     offset: &mut [u32],
     run: &mut [u16],
-    first: &mut [u16],
-    last: &mut [u16],
-    left: &mut [u16],
-    cost: &mut [i32],
-    next: &mut [u16],
-    word_offset: &mut [u32],
-    word_id: &mut [u32],
-    word_kind: &mut [u8],
+    rows: &mut Rows,
+    words: &mut WordRows,
 ) -> Answer
-    requires sound { Sound text.now n
-        × Accepted n (given start.now end.now extra.now entry.now (runs (letters text.now)) mode matrix.now width)
-        × (length kind.now ≡ length start.now) }
-    requires room { short_row n (length start.now)
-        (job_rows
-        offset.old run.old first.old last.old left.old cost.old next.old
-        word_offset.old word_id.old word_kind.old)
-        ≡ false }
-    ensures leaves { outcome result (job_rows
-        offset.new run.new first.new last.new left.new cost.new next.new
-        word_offset.new word_id.new word_kind.new)
-        ≡ worked (letters text.now) kind.now
-        (given start.now end.now extra.now entry.now (runs (letters text.now)) mode matrix.now width)
-        (job_rows
-        offset.old run.old first.old last.old left.old cost.old next.old
-        word_offset.old word_id.old word_kind.old) }
-    ensures all_in_range { AllInRange
-        (lattice n
-        (given start.now end.now extra.now entry.now (runs (letters text.now)) mode matrix.now width)) }
+    requires sound { Sound job.now.text.now passed.n
+        × Accepted passed.n (given_in (told job.now) passed.mode)
+        × (length job.now.candidates.kind.now ≡ length job.now.candidates.start.now) }
+    requires room { short_row passed.n (candidate_count (told job.now)) (ten offset.old run.old rows.old words.old) ≡ false }
+    ensures leaves { outcome result (ten offset.new run.new rows.new words.new)
+        ≡ worked (letters job.now.text.now) job.now.candidates.kind.now (given_in (told job.now) passed.mode) (ten offset.old run.old rows.old words.old) }
+    ensures all_in_range { AllInRange (lattice passed.n (given_in (told job.now) passed.mode)) }
+    ensures same_rows { lattice_rows.SameRows rows.old rows.new × word_rows.SameRows words.old words.new }
 {
-    text::fill(text, n, offset, run);
-    let positions = n + 1;
-    let mark = start.len() + 1;
-    let entries = mark + 1;
-    forward::forward_pass(
-        n,
-        start,
-        end,
-        extra,
-        entry,
-        &run[0..positions],
-        mode,
-        matrix,
-        width,
-        first,
-        last,
-        left,
-        cost,
-        next,
-    );
-    words::words(
-        n,
-        start,
-        end,
-        kind,
-        entry,
-        &offset[0..positions],
-        &left[0..entries],
-        cost[mark],
-        word_offset,
-        word_id,
-        word_kind,
-    )
+    let n = passed.n;
+    text::fill(job.text, n, offset, run);
+    let sentence = Sentence {
+        candidates: job.candidates,
+        run: &run[..=n],
+        mode: passed.mode,
+        matrix: job.matrix,
+    };
+    forward::forward_pass(n, &sentence, rows);
+    finish(n, &job.candidates, &offset[..=n], rows, words)
 }
 
 // The whole job: every test before the first write. Past the tests every stored cost is in range.
 pub fn segment(
-    text: &[u8],
-    start: &[u16],
-    end: &[u16],
-    kind: &[u8],
-    extra: &[i16],
-    entry: &[u8],
-    height: u32,
-    width: u32,
-    matrix: &[i16],
-    mode: u32,
-    kanji_threshold: u32,
-    kanji_price: u32,
-    other_threshold: u32,
-    other_price: u32,
+    job: &Job,
     offset: &mut [u32],
     run: &mut [u16],
-    first: &mut [u16],
-    last: &mut [u16],
-    left: &mut [u16],
-    cost: &mut [i32],
-    next: &mut [u16],
-    word_offset: &mut [u32],
-    word_id: &mut [u32],
-    word_kind: &mut [u8],
+    rows: &mut Rows,
+    words: &mut WordRows,
 ) -> Answer
-    ensures leaves { outcome result (job_rows
-        offset.new run.new first.new last.new left.new cost.new next.new
-        word_offset.new word_id.new word_kind.new)
-        ≡ Rattle.segmenter.specs.Segment.segment
-        (job
-        text.now start.now end.now kind.now extra.now entry.now
-        height width matrix.now
-        mode kanji_threshold kanji_price other_threshold other_price)
-        (job_rows
-        offset.old run.old first.old last.old left.old cost.old next.old
-        word_offset.old word_id.old word_kind.old) }
-    ensures ranged { Ranged
-        (job
-        text.now start.now end.now kind.now extra.now entry.now
-        height width matrix.now
-        mode kanji_threshold kanji_price other_threshold other_price)
-        (job_rows
-        offset.old run.old first.old last.old left.old cost.old next.old
-        word_offset.old word_id.old word_kind.old) }
+    ensures leaves { outcome result (ten offset.new run.new rows.new words.new)
+        ≡ Rattle.segmenter.specs.Segment.segment (told job.now) (ten offset.old run.old rows.old words.old) }
+    ensures ranged { Ranged (told job.now) (ten offset.old run.old rows.old words.old) }
+    ensures same_rows { lattice_rows.SameRows rows.old rows.new × word_rows.SameRows words.old words.new }
 {
-    match check_inputs(
-        text,
-        start,
-        end,
-        kind,
-        extra,
-        entry,
-        height,
-        width,
-        matrix,
-        mode,
-        kanji_threshold,
-        kanji_price,
-        other_threshold,
-        other_price,
-    ) {
-        Inputs::Failed(answer) => answer,
-        Inputs::Passed { n, mode } => {
-            if short_row(
-                n,
-                start.len(),
-                offset.len(),
-                run.len(),
-                first.len(),
-                last.len(),
-                left.len(),
-                cost.len(),
-                next.len(),
-                word_offset.len(),
-                word_id.len(),
-                word_kind.len(),
-            ) {
-                return Answer::ShortRow;
-            }
-            match check_candidates(n, start, end, kind, entry, height, width) {
-                Verdict::Refused(answer) => answer,
-                Verdict::Fine => work(
-                    text,
-                    n,
-                    start,
-                    end,
-                    kind,
-                    extra,
-                    entry,
-                    mode,
-                    matrix,
-                    width as usize,
-                    offset,
-                    run,
-                    first,
-                    last,
-                    left,
-                    cost,
-                    next,
-                    word_offset,
-                    word_id,
-                    word_kind,
-                ),
-            }
-        }
+    let passed = check_inputs(job)?;
+    let lengths = RowLengths {
+        offset: offset.len(),
+        run: run.len(),
+        first: rows.first.len(),
+        last: rows.last.len(),
+        left: rows.left.len(),
+        cost: rows.cost.len(),
+        next: rows.next.len(),
+        word_offset: words.offset.len(),
+        word_id: words.id.len(),
+        word_kind: words.kind.len(),
+    };
+    if short_row(passed.n, job.candidates.start.len(), lengths) {
+        return Err(Refusal::ShortRow);
     }
+    check_candidates(passed.n, &job.candidates, &job.matrix)?;
+    work(job, passed, offset, run, rows, words)
 }

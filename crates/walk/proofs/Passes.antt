@@ -3,15 +3,15 @@ use Prim.Native.Nat.{ℕ, zero, suc, ◌+◌, ◌-◌, ◌≤◌, ◌<◌}
 use mathlib.Core.Path.{◌≡◌, refl, ap, ◌∙◌, sym, subst}
 use mathlib.Core.List.{List, [], ◌∷◌, ◌++◌, map}
 use native.Mathlib.Omega.{arith}
-use lib.ListN.{length, take, drop, get_or, set, length-set, length-map, take-append-drop}
+use lib.ListN.{length, take, drop, get_or, set, length-set, length-map}
 use lib.Seq.{take-suc, append_snoc, set_at, length-take-le}
 use Rattle.ground.specs.Entry.{none_link}
 use Rattle.ground.specs.Rows.{over}
 use Rattle.walk.specs.WalkBack.{link_at, walk_from, walk_back}
-use Rattle.walk.specs.Inner.{walked_of, linked, Sure}
+use Rattle.walk.specs.Inner.{linked, Sure}
 use Rattle.walk.specs.declared.walk_back.Link.TheVariants.{ToStart, ToCandidate}
-use Rattle.walk.specs.declared.walk_back.Link.TheVariants.{Broken as BrokenLink}
-use Rattle.walk.specs.declared.walk_back.Walked.TheVariants.{Whole, Broken}
+use Rattle.std.specs.Prelude.{Some, None}
+use Rattle.std.specs.Option.{option_map}
 use Rattle.walk.proofs.WalkLaws.{step, next, right}
 
 -- ---- the first pass
@@ -32,7 +32,7 @@ module _ (start end left : List ℕ) (n : ℕ) where
       record { there = omega arith; few = omega arith; found = []; long = refl; same = rw mark }
 
   module _ (position entry count : ℕ) (h : Counting start end left n position entry count) where
-    pub counting_more : (k : ℕ) → link_at start end position (get_or left entry none_link) ≡ ToCandidate k
+    pub counting_more : (k : ℕ) → link_at start end position (get_or left entry none_link) ≡ Some (ToCandidate k)
         → Counting start end left n (get_or start k 0) (k + 1) (count + 1)
     counting_more k e =
         let r = right start end position (get_or left entry none_link) k e in
@@ -45,12 +45,12 @@ module _ (start end left : List ℕ) (n : ℕ) where
           same = rw mark (next start end left position entry k h.found e ∙ h.same);
         }
 
-    pub counting_done : link_at start end position (get_or left entry none_link) ≡ ToStart → Whole count ≡ walked_of (walk_back start end left n)
+    pub counting_done : link_at start end position (get_or left entry none_link) ≡ Some ToStart → Some count ≡ option_map length (walk_back start end left n)
     counting_done e =
-        rw (← h.same, step start end left position position entry h.found ToStart e) (ap Whole (sym h.long))
+        rw (← h.same, step start end left position position entry h.found (Some ToStart) e) (ap Some (sym h.long))
 
-    pub counting_broken : link_at start end position (get_or left entry none_link) ≡ BrokenLink → Broken ≡ walked_of (walk_back start end left n)
-    counting_broken e = rw (← h.same, step start end left position position entry h.found BrokenLink e)
+    pub counting_broken : link_at start end position (get_or left entry none_link) ≡ None → None ≡ option_map length (walk_back start end left n)
+    counting_broken e = rw (← h.same, step start end left position position entry h.found None e)
 
 -- ---- the second pass
 
@@ -84,9 +84,6 @@ linked_more left (suc i) entry found h =
     ap (λ (j : ℕ). linked left j (get_or left entry 0) ((get_or left entry 0 - 1) ∷ found)) e
 
 module _ (left : List ℕ) (mark count : ℕ) where
-  pub linking_none : Sure left mark count mark → Linking left mark count [] mark count
-  linking_none s = record { within = omega arith; sure = s; long = omega arith; same = refl }
-
   module _ (found : List ℕ) (entry i : ℕ) (h : Linking left mark count found entry i) where
     -- one link further: its candidate stands in front of those found
     pub linking_more : 0 < i → Linking left mark count ((get_or left entry 0 - 1) ∷ found) (get_or left entry 0) (i - 1)
@@ -105,9 +102,6 @@ module _ (left : List ℕ) (mark count : ℕ) where
         subst (λ (k : ℕ). linked left k entry found ≡ linked left count mark []) none h.same
 
 module _ (tell : ℕ → ℕ) (count : ℕ) (row₀ : List ℕ) (room : count ≤ length row₀) where
-  pub placed_none : Placed tell [] count count row₀ row₀
-  placed_none = record { kept = refl; holds = sym (take-append-drop count row₀) }
-
   -- one place further to the left
   pub placed_more : (found row : List ℕ) (i k : ℕ) → 0 < i → i ≤ count → Placed tell found count i row₀ row
       → Placed tell (k ∷ found) count (i - 1) row₀ (set row (i - 1) (tell k))

@@ -3,18 +3,18 @@ use Prim.Native.Nat.{ℕ, ◌+◌, ◌-◌, ◌*◌, ◌≤◌, ◌<◌}
 use mathlib.Core.Path.{◌≡◌, ap, ◌∙◌}
 use mathlib.Core.Bool.{Bool}
 use mathlib.Core.List.{List, [], ◌∷◌, map}
-use mathlib.Core.Option.{Option}
+use Rattle.std.specs.Prelude.{Option}
 use native.Mathlib.Omega.{arith}
 use lib.ListN.{length, get_or, set}
 use lib.IntN.{ℤ}
 use Rattle.ground.specs.Rows.{over}
-use Rattle.ground.specs.declared.answer.Answer.{Answer}
+use Rattle.ground.specs.Answer.{Answer}
 use Rattle.ground.specs.Entry.{entry_at, entry_bytes}
 use Rattle.ground.proofs.EntryLaws.{entry_fits}
 use Rattle.walk.specs.WalkBack.{walk_back}
 use Rattle.walk.specs.WordRows.{word_offsets, word_ids, word_kinds, answer_by, words_by}
-use Rattle.walk.specs.Inner.{linked, Sure, Listed, end_reached, Ended}
-use Rattle.walk.proofs.Passes.{Linking, Placed, sure_link, linking_none, linking_more, linking_all, placed_none, placed_more, placed_all}
+use Rattle.walk.specs.Inner.{linked, Listed, Roomy, end_reached, Ended}
+use Rattle.walk.proofs.Passes.{Linking, Placed, sure_link, linking_more, linking_all, placed_more, placed_all}
 
 -- What is told of candidate k in each of the three rows.
 abbrev pub offset_told : List ℕ → List ℕ → ℕ → ℕ
@@ -34,12 +34,6 @@ pub record Writing (start kind entry offset left : List ℕ) (count : ℕ) (offs
   pub ids : Placed (id_told entry) found count i id₀ word_id
   pub kinds : Placed (kind_told kind) found count i kind₀ word_kind
 
--- The three rows have room.
-pub record Roomy (count : ℕ) (offset₀ id₀ kind₀ : List ℕ) : Type 0 where
-  pub offsets : count ≤ length offset₀
-  pub ids : count ≤ length id₀
-  pub kinds : count ≤ length kind₀
-
 -- The link that is to be followed can be read, and so can all of its candidate.
 pub record Told (start kind entry offset left : List ℕ) (at : ℕ) : Type 0 where
   pub there : at < length left
@@ -50,17 +44,6 @@ pub record Told (start kind entry offset left : List ℕ) (at : ℕ) : Type 0 wh
   pub bytes : (get_or left at 0 - 1) * entry_bytes + entry_bytes ≤ length entry
 
 module _ (start kind entry offset left : List ℕ) (count : ℕ) (offset₀ id₀ kind₀ : List ℕ) (lists : Listed start kind entry offset) (room : Roomy count offset₀ id₀ kind₀) where
-  pub writing_none : Sure left (length start + 1) count (length start + 1)
-      → Writing start kind entry offset left count offset₀ id₀ kind₀ offset₀ id₀ kind₀ (length start + 1) count
-  writing_none s =
-      record {
-        found = [];
-        linking = linking_none left (length start + 1) count s;
-        offsets = placed_none (offset_told offset start) count offset₀ room.offsets;
-        ids = placed_none (id_told entry) count id₀ room.ids;
-        kinds = placed_none (kind_told kind) count kind₀ room.kinds;
-      }
-
   module _ (word_offset word_id word_kind : List ℕ) (at i : ℕ) (h : Writing start kind entry offset left count offset₀ id₀ kind₀ word_offset word_id word_kind at i) where
     pub told : 0 < i → Told start kind entry offset left at
     told l =

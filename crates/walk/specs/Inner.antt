@@ -1,18 +1,11 @@
 -- Inner, no part of document 01: what the passes of the walk back and of the words leave on the way, and what they ask.
 use Rattle.std.specs.Prelude.{ℕ, zero, suc, ◌+◌, ◌-◌, ◌*◌, ◌≤◌, ◌<◌, ◌≡◌, Bool, not, List, ◌∷◌, length, get_or, eqb, ℤ}
-use Rattle.std.proofs.Math.Option.{Option, none, some}
 use Rattle.ground.specs.Rows.{over}
-use Rattle.ground.specs.declared.answer.Answer.{Answer}
+use Rattle.ground.specs.Answer.{Answer}
 use Rattle.ground.specs.Entry.{entry_bytes, none_link}
 use Rattle.walk.specs.WalkBack.{walk_back}
+use Rattle.walk.specs.declared.words.WordRows.{WordRows}
 use Rattle.walk.specs.WordRows.{word_offsets, word_ids, word_kinds, answer_by, words_by}
-use Rattle.walk.specs.declared.walk_back.Walked.{Walked}
-use Rattle.walk.specs.declared.walk_back.Walked.TheVariants.{Whole, Broken}
-
--- What the first pass tells of a walk.
-abbrev pub walked_of : Option (List ℕ) → Walked
-walked_of none = Broken
-walked_of (some found) = Whole (length found)
 
 -- The candidates that so many links name, followed from an entry and not tested, in front of those found so far.
 unfoldable pub linked : List ℕ → ℕ → ℕ → List ℕ → List ℕ
@@ -33,6 +26,18 @@ pub record Listed (start kind entry offset : List ℕ) : Type 0 where
   pub kinds : length kind ≡ length start
   pub entries : length entry ≡ entry_bytes * length start
   pub positions : (k : ℕ) → k < length start → get_or start k 0 < length offset
+
+-- So many places in each of the three word rows.
+pub record Roomy (count : ℕ) (word_offset word_id word_kind : List ℕ) : Type 0 where
+  pub offsets : count ≤ length word_offset
+  pub ids : count ≤ length word_id
+  pub kinds : count ≤ length word_kind
+
+-- The three references are those that were lent.
+pub record SameRows (old new : WordRows) : Type 0 where
+  pub offset : new.offset.ghost_name ≡ old.offset.ghost_name
+  pub id : new.id.ghost_name ≡ old.id.ghost_name
+  pub kind : new.kind.ghost_name ≡ old.kind.ghost_name
 
 -- The end mark is reached: it has a left.
 abbrev pub end_reached : List ℕ → List ℕ → Bool

@@ -1,94 +1,74 @@
 // The walk back (document 01, piece 7; `tokens_offset_into`): once over the links to test and count them, and once more to write.
-ghost use Rattle.std.specs.Prelude.{◌≡◌, ◌+◌, ◌≤◌, [], length};
+ghost use Rattle.std.specs.Prelude.{◌≡◌, ◌+◌, ◌≤◌, [], length, option_map};
 ghost use Rattle.ground.specs.Rows.{over};
 ghost use Rattle.walk.specs.WalkBack.{link_at, walk_back, walk_back_alone, outcome};
-ghost use Rattle.walk.specs.Inner.{walked_of, Sure, linked};
+ghost use Rattle.walk.specs.Inner.{Sure, linked};
 
-use ground::answer::Answer;
+use ground::answer::{Answer, Done, Refusal};
 use ground::entry::{CANDIDATE_LIMIT, Entry};
 use ground::text::CHARACTER_LIMIT;
 
-// What a link says at a position.
+// What a link says at a position, unless it is broken.
 #[derive(Clone, Copy)]
 pub enum Link {
     ToStart,
     ToCandidate { k: usize },
-    Broken,
-}
-
-// What the first pass finds: all links right, and how many lead to a candidate; or one that is broken.
-#[derive(Clone, Copy)]
-pub enum Walked {
-    Whole { count: usize },
-    Broken,
-}
-
-fn wide(x: u16) -> usize
-    ensures { result ≡ x }
-{
-    x as usize
 }
 
 // A link, tested.
-fn link_at(start: &[u16], end: &[u16], position: usize, link: u16) -> Link
+fn link_at(start: &[u16], end: &[u16], position: usize, link: u16) -> Option<Link>
     requires { length end.now ≡ length start.now }
     ensures { result ≡ link_at start.now end.now position link }
 {
     if link == Entry::START {
         if position == 0 {
-            return Link::ToStart;
+            return Some(Link::ToStart);
         }
-        return Link::Broken;
+        return None;
     }
-    let k = wide(link) - 1;
+    let k = usize::from(link) - 1;
     if start.len() <= k {
-        return Link::Broken;
+        return None;
     }
-    let from = wide(start[k]);
-    let to = wide(end[k]);
+    let from = usize::from(start[k]);
+    let to = usize::from(end[k]);
     if to <= from {
-        return Link::Broken;
+        return None;
     }
     if to != position {
-        return Link::Broken;
+        return None;
     }
-    Link::ToCandidate { k }
+    Some(Link::ToCandidate { k })
 }
 
-// The first pass: each link from the end mark on is tested, and the candidates are counted. Nothing is written.
-pub fn count(start: &[u16], end: &[u16], left: &[u16], n: usize) -> Walked
+// The first pass: each link from the end mark on is tested, and the candidates are counted; none where a link is broken. Nothing is
+// written.
+pub fn count(start: &[u16], end: &[u16], left: &[u16], n: usize) -> Option<usize>
     requires { (length end.now ≡ length start.now) × (length start.now + 2 ≤ length left.now) }
-    ensures { result ≡ walked_of (walk_back start.now end.now left.now n) }
+    ensures { result ≡ option_map length (walk_back start.now end.now left.now n) }
 {
     let mut position = n;
     let mut entry = start.len() + 1;
     let mut count: usize = 0;
-    loop {
-        match link_at(start, end, position, left[entry]) {
-            Link::ToStart => return Walked::Whole { count },
-            Link::Broken => return Walked::Broken,
-            Link::ToCandidate { k } => {
-                position = wide(start[k]);
-                entry = k + 1;
-                count += 1;
-            }
-        }
+    while let Link::ToCandidate { k } = link_at(start, end, position, left[entry])? {
+        position = usize::from(start[k]);
+        entry = k + 1;
+        count += 1;
     }
+    Some(count)
 }
 
 // The second pass: so many links once more from the end mark on, and the candidates' numbers from the last place to the first. Nothing is
-// tested again.
+// tested again. (C may lend rows that are longer: so the count goes beside them.)
 fn write(left: &[u16], mark: usize, count: usize, word: &mut [u16])
     requires { Sure left.now mark count mark × (count ≤ length word.old) }
     ensures { word.new ≡ over (linked left.now count mark []) word.old }
 {
     let mut entry = mark;
-    let mut i = count;
-    while 0 < i {
-        let link = wide(left[entry]);
-        i -= 1;
-        word[i] = (link - 1) as u16;
-        entry = link;
+    for i in (0..count).rev() {
+        let link = left[entry];
+        word[i] = link - 1;
+        entry = usize::from(link);
     }
 }
 
@@ -99,28 +79,21 @@ pub fn walk_back(start: &[u16], end: &[u16], left: &[u16], n: u32, word: &mut [u
 {
     let n = n as usize;
     if CHARACTER_LIMIT < n {
-        return Answer::TooLong;
+        return Err(Refusal::TooLong);
     }
     if start.len() != end.len() {
-        return Answer::Uneven;
+        return Err(Refusal::Uneven);
     }
     if CANDIDATE_LIMIT < start.len() {
-        return Answer::TooMany;
+        return Err(Refusal::TooMany);
     }
-    if left.len() < start.len() + 2 {
-        return Answer::ShortRow;
+    if left.len() < start.len() + 2 || word.len() < n {
+        return Err(Refusal::ShortRow);
     }
-    if word.len() < n {
-        return Answer::ShortRow;
-    }
-    match count(start, end, left, n) {
-        Walked::Broken => Answer::BrokenLink,
-        Walked::Whole { count } => {
-            write(left, start.len() + 1, count, word);
-            Answer::Done {
-                count: count as u32,
-                cost: 0,
-            }
-        }
-    }
+    let count = count(start, end, left, n).ok_or(Refusal::BrokenLink)?;
+    write(left, start.len() + 1, count, word);
+    Ok(Done {
+        count: count as u32,
+        cost: 0,
+    })
 }

@@ -3,53 +3,45 @@ ghost use Rattle.std.specs.Prelude.{◌≡◌, ◌+◌, ◌≤◌, [], length};
 ghost use Rattle.ground.specs.Limits.{character_limit};
 ghost use Rattle.ground.specs.Rows.{over};
 ghost use Rattle.walk.specs.WordRows.{word_offsets, word_ids, word_kinds};
-ghost use Rattle.walk.specs.Inner.{linked, Sure, Listed, Ended};
+ghost use Rattle.walk.specs.Inner.{linked, Sure, Listed, Roomy, SameRows, Ended};
 
 use crate::walk_back;
-use crate::walk_back::Walked;
-use ground::answer::Answer;
+use ground::answer::{Answer, Done, Refusal};
+use ground::candidates::Candidates;
 use ground::entry::Entry;
 
-fn wide(x: u16) -> usize
-    ensures { result ≡ x }
-{
-    x as usize
+// The word rows as a caller lends them.
+#[derive(Drop)]
+pub struct WordRows<'a> {
+    pub offset: &'a mut [u32],
+    pub id: &'a mut [u32],
+    pub kind: &'a mut [u8],
 }
 
-// So many links from the end mark on, and what is told of their candidates from the last place to the first.
-fn write(
-    start: &[u16],
-    kind: &[u8],
-    entry: &[u8],
-    offset: &[u32],
-    left: &[u16],
-    count: usize,
-    word_offset: &mut [u32],
-    word_id: &mut [u32],
-    word_kind: &mut [u8],
-)
-    requires listed { Listed start.now kind.now entry.now offset.now × Sure left.now (length start.now + 1) count (length start.now + 1) }
-    requires room { (count ≤ length word_offset.old) × (count ≤ length word_id.old) × (count ≤ length word_kind.old)
-        × (length start.now + 1 ≤ length left.now) }
-    ensures word_offset_after { word_offset.new
-        ≡ over (word_offsets offset.now start.now (linked left.now count (length start.now + 1) []))
-        word_offset.old }
-    ensures word_id_after { word_id.new
-        ≡ over (word_ids entry.now (linked left.now count (length start.now + 1) []))
-        word_id.old }
-    ensures word_kind_after { word_kind.new
-        ≡ over (word_kinds kind.now (linked left.now count (length start.now + 1) []))
-        word_kind.old }
+// So many links from the end mark on, and what is told of their candidates from the last place to the first. (walk_back's `write` takes the
+// same links. One walk for both would take a closure, and of the rows that a closure borrows no proof learns what they hold after it.)
+fn write(candidates: &Candidates, offset: &[u32], left: &[u16], count: usize, rows: &mut WordRows)
+    requires listed { Listed candidates.now.start.now candidates.now.kind.now candidates.now.entry.now offset.now
+        × Sure left.now (length candidates.now.start.now + 1) count (length candidates.now.start.now + 1) }
+    requires room { Roomy count rows.old.offset.now rows.old.id.now rows.old.kind.now × (length candidates.now.start.now + 1 ≤ length left.now) }
+    ensures word_offset_after { rows.new.offset.now
+        ≡ over (word_offsets offset.now candidates.now.start.now (linked left.now count (length candidates.now.start.now + 1) []))
+        rows.old.offset.now }
+    ensures word_id_after { rows.new.id.now
+        ≡ over (word_ids candidates.now.entry.now (linked left.now count (length candidates.now.start.now + 1) []))
+        rows.old.id.now }
+    ensures word_kind_after { rows.new.kind.now
+        ≡ over (word_kinds candidates.now.kind.now (linked left.now count (length candidates.now.start.now + 1) []))
+        rows.old.kind.now }
+    ensures same_rows { SameRows rows.old rows.new }
 {
-    let mut at = start.len() + 1;
-    let mut i = count;
-    while 0 < i {
-        let link = wide(left[at]);
+    let mut at = candidates.start.len() + 1;
+    for i in (0..count).rev() {
+        let link = usize::from(left[at]);
         let k = link - 1;
-        i -= 1;
-        word_offset[i] = offset[wide(start[k])];
-        word_id[i] = Entry::read(entry, k).id;
-        word_kind[i] = kind[k];
+        rows.offset[i] = offset[usize::from(candidates.start[k])];
+        rows.id[i] = Entry::read(candidates.entry, k).id;
+        rows.kind[i] = candidates.kind[k];
         at = link;
     }
 }
@@ -57,47 +49,31 @@ fn write(
 // 12 where the end mark is not reached; otherwise the words, counted first and then written. The cost is the end mark's.
 pub fn words(
     n: usize,
-    start: &[u16],
-    end: &[u16],
-    kind: &[u8],
-    entry: &[u8],
+    candidates: &Candidates,
     offset: &[u32],
     left: &[u16],
     cost: i32,
-    word_offset: &mut [u32],
-    word_id: &mut [u32],
-    word_kind: &mut [u8],
+    rows: &mut WordRows,
 ) -> Answer
-    requires listed { Listed start.now kind.now entry.now offset.now × (length end.now ≡ length start.now) × (n ≤ character_limit) }
-    requires room { (length start.now + 2 ≤ length left.now)
-        × (n ≤ length word_offset.old) × (n ≤ length word_id.old) × (n ≤ length word_kind.old) }
-    ensures { Ended n start.now end.now kind.now entry.now offset.now left.now cost
-        word_offset.old word_id.old word_kind.old
+    requires listed { Listed candidates.now.start.now candidates.now.kind.now candidates.now.entry.now offset.now
+        × (length candidates.now.end.now ≡ length candidates.now.start.now) × (n ≤ character_limit) }
+    requires room { (length candidates.now.start.now + 2 ≤ length left.now) × Roomy n rows.old.offset.now rows.old.id.now rows.old.kind.now }
+    ensures ended { Ended n candidates.now.start.now candidates.now.end.now candidates.now.kind.now candidates.now.entry.now offset.now left.now cost
+        rows.old.offset.now rows.old.id.now rows.old.kind.now
         result
-        word_offset.new word_id.new word_kind.new }
+        rows.new.offset.now rows.new.id.now rows.new.kind.now }
+    ensures same_rows { SameRows rows.old rows.new }
 {
-    let mark = start.len() + 1;
+    let mark = candidates.start.len() + 1;
     if left[mark] == Entry::NONE {
-        return Answer::NoPath;
+        return Err(Refusal::NoPath);
     }
-    match walk_back::count(start, end, left, n) {
-        Walked::Broken => Answer::BrokenLink,
-        Walked::Whole { count } => {
-            write(
-                start,
-                kind,
-                entry,
-                offset,
-                left,
-                count,
-                word_offset,
-                word_id,
-                word_kind,
-            );
-            Answer::Done {
-                count: count as u32,
-                cost,
-            }
-        }
-    }
+    let count = walk_back::count(candidates.start, candidates.end, left, n).ok_or(
+        Refusal::BrokenLink,
+    )?;
+    write(candidates, offset, left, count, rows);
+    Ok(Done {
+        count: count as u32,
+        cost,
+    })
 }

@@ -1,86 +1,75 @@
 -- A test at a time: those before it did not hold. Assumes nothing.
-use mathlib.Core.Path.{◌≡◌, ap, ap₂, ◌∙◌, sym}
-use mathlib.Core.Bool.{false}
-use mathlib.Core.Option.{none, or_else}
+use Rattle.std.proofs.Common.{ℕ, ◌≡◌, ap₂, sym, ◌∙◌, length, arith, Ok, None}
+use Rattle.std.proofs.lemmas.Result.{err_from_is_err_and}
 use borrow.Author.Tests.{lt-ltb, le-ltb}
-use native.Mathlib.Omega.{arith}
-use lib.ListN.{length}
-use lib.Dec.{ltb}
 use Rattle.ground.specs.Limits.{candidate_limit}
-use Rattle.ground.specs.Characters.{text_refused}
+use Rattle.ground.specs.Characters.{text_refused, checked}
 use Rattle.ground.specs.declared.charge.Mode.{Mode}
-use Rattle.ground.proofs.CharacterLaws.{passed}
-use Rattle.checks.specs.Checks.{uneven, bad_matrix, bad_mode, mode_of}
-use Rattle.checks.specs.declared.checks.Named.{Named}
-use Rattle.checks.specs.declared.checks.Inputs.TheVariants as Inputs
-use Rattle.checks.proofs.CheckLaws.{text_refusal, text_told, nameless, mode_in, mode_told}
+use Rattle.checks.specs.Inner.{mode_refused}
+use Rattle.checks.specs.declared.checks.Passed.{Passed}
+use Rattle.checks.proofs.CheckLaws.{told_ok, told_err}
 use Rattle.checks.proofs.checks.check_inputs.Goals as goal
-use Rattle.checks.proofs.checks.check_inputs.Goals.{After-check, After-mode_named, After-uneven, Else-bad_matrix, Else-start-gt-CANDIDATE_LIMIT, Else-uneven, Start}
+use Rattle.checks.proofs.checks.check_inputs.Goals.{Else-bad_matrix, Else-job-gt-CANDIDATE_LIMIT, Else-uneven, In_ok-n}
 
--- what the tests of the text told
-text_refused_lem : (c : goal.After-check) → text_refused c.args.text.now ≡ text_refusal c.check.result
-text_refused_lem c = text_told c.args.text.now c.check.result c.check.ensures
+abbrev passed : ℕ → Mode → Passed
+passed n mode = record { n = n; mode = mode }
 
--- they do not hold
-text_fine : (c : goal.After-uneven) → text_refused c.args.text.now ≡ none
-text_fine c = text_refused_lem (goal.at.After-uneven c).After-check ∙ ap text_refusal c.in-Passed.is
+-- the text passed
+text_fine : (c : goal.In_ok-n) → (text_refused c.args.job.now.text.now ≡ None)
+unfolding checked
+text_fine c = (told_ok (text_refused c.args.job.now.text.now) _ _ (sym c.in_ok-n.was ∙ c.check.ensures)).0
 
--- nor does 3
-even : (c : goal.Else-uneven)
-    → let a = c.args in
-    uneven (length a.start.now) (length a.end.now) (length a.kind.now) (length a.extra.now) (length a.entry.now) ≡ false
-even c = sym c.uneven.ensures ∙ c.if-uneven.false
-
--- nor does 4
-few : (c : goal.Else-start-gt-CANDIDATE_LIMIT) → ltb candidate_limit (length c.args.start.now) ≡ false
-few c = le-ltb candidate_limit (length c.args.start.now) (omega arith)
-
--- nor does 5
-fitting : (c : goal.Else-bad_matrix)
-    → let a = c.args in bad_matrix a.height a.width (length a.matrix.now) ≡ false
-fitting c = sym c.bad_matrix.ensures ∙ c.if-bad_matrix.false
-
-abbrev mode_by : goal.Start → Mode
-mode_by s = let a = s.args in mode_of a.mode a.kanji_threshold a.kanji_price a.other_threshold a.other_price
-
--- 6, and the mode, as they were told
-named : (c : goal.After-mode_named)
-    → let a = c.args in
-    (bad_mode a.mode a.kanji_threshold a.kanji_price a.other_threshold a.other_price ≡ nameless c.mode_named.result)
-    × (mode_in c.mode_named.result (mode_by (goal.at.After-mode_named c).Start) ≡ mode_by (goal.at.After-mode_named c).Start)
-named c =
-    let a = c.args in
-    mode_told (bad_mode a.mode a.kanji_threshold a.kanji_price a.other_threshold a.other_price) (mode_by (goal.at.After-mode_named c).Start) c.mode_named.result
-    c.mode_named.ensures
+pub returns-in_err-n : goal.returns-in_err-n
+unfolding checked
+returns-in_err-n c =
+    let p = err_from_is_err_and c.from_residual.result c.from_residual.ensures.1 in
+    let t = told_err (text_refused c.args.job.now.text.now) _ _ (sym c.in_err-n.was ∙ c.check.ensures) in
+    rw (p.1, p.2, t)
 
 pub returns-then-uneven : goal.returns-then-uneven
-unfolding or_else
-returns-then-uneven c = rw (text_fine (goal.at.returns-then-uneven c).After-uneven, sym c.uneven.ensures ∙ c.if-uneven.true)
+returns-then-uneven c = rw (text_fine (goal.at.returns-then-uneven c).In_ok-n, sym c.uneven.ensures ∙ c.if-uneven.true)
 
-pub returns-then-start-gt-CANDIDATE_LIMIT : goal.returns-then-start-gt-CANDIDATE_LIMIT
-unfolding or_else
-returns-then-start-gt-CANDIDATE_LIMIT c =
-    rw (text_fine (goal.at.returns-then-start-gt-CANDIDATE_LIMIT c).After-uneven, even (goal.at.returns-then-start-gt-CANDIDATE_LIMIT c).Else-uneven, lt-ltb candidate_limit (length c.args.start.now) (omega arith))
+pub returns-then-job-gt-CANDIDATE_LIMIT : goal.returns-then-job-gt-CANDIDATE_LIMIT
+returns-then-job-gt-CANDIDATE_LIMIT c =
+    rw (
+      text_fine (goal.at.returns-then-job-gt-CANDIDATE_LIMIT c).In_ok-n,
+      sym c.uneven.ensures ∙ c.if-uneven.false,
+      lt-ltb candidate_limit (length c.args.job.now.candidates.start.now) (omega arith),
+    )
 
 pub returns-then-bad_matrix : goal.returns-then-bad_matrix
-unfolding or_else
 returns-then-bad_matrix c =
-    rw (text_fine (goal.at.returns-then-bad_matrix c).After-uneven, even (goal.at.returns-then-bad_matrix c).Else-uneven, few (goal.at.returns-then-bad_matrix c).Else-start-gt-CANDIDATE_LIMIT, sym c.bad_matrix.ensures ∙ c.if-bad_matrix.true)
+    rw (
+      text_fine (goal.at.returns-then-bad_matrix c).In_ok-n,
+      sym c.uneven.ensures ∙ c.if-uneven.false,
+      le-ltb candidate_limit (length c.args.job.now.candidates.start.now) (omega arith),
+      sym c.bad_matrix.ensures ∙ c.if-bad_matrix.true,
+    )
 
-pub returns-in-Refused : goal.returns-in-Refused
-unfolding or_else
-returns-in-Refused c = rw (text_refused_lem (goal.at.returns-in-Refused c).After-check ∙ ap text_refusal c.in-Refused.is)
+pub returns-in_err-mode : goal.returns-in_err-mode
+returns-in_err-mode c =
+    let p = err_from_is_err_and c.from_residual-in_err-mode.result c.from_residual-in_err-mode.ensures.1 in
+    let t = told_err (mode_refused c.args.job.now.mode) _ _ c.in_err-mode.ensures in
+    rw (
+      p.1,
+      p.2,
+      text_fine (goal.at.returns-in_err-mode c).In_ok-n,
+      sym c.uneven.ensures ∙ c.if-uneven.false,
+      le-ltb candidate_limit (length c.args.job.now.candidates.start.now) (omega arith),
+      sym c.bad_matrix.ensures ∙ c.if-bad_matrix.false,
+      t,
+    )
 
-pub returns-in-Other : goal.returns-in-Other
-unfolding or_else
-returns-in-Other c =
-    rw (text_fine (goal.at.returns-in-Other c).After-uneven, even (goal.at.returns-in-Other c).Else-uneven, few (goal.at.returns-in-Other c).Else-start-gt-CANDIDATE_LIMIT, fitting (goal.at.returns-in-Other c).Else-bad_matrix, (named (goal.at.returns-in-Other c).After-mode_named).0 ∙ ap nameless c.in-Other.is)
-
-pub returns-in-Known : goal.returns-in-Known
-unfolding or_else
-returns-in-Known c =
-    let n = c.in-Passed in
-    let mode = c.in-Known.is in
-    rw (text_fine (goal.at.returns-in-Known c).After-uneven, even (goal.at.returns-in-Known c).Else-uneven, few (goal.at.returns-in-Known c).Else-start-gt-CANDIDATE_LIMIT, fitting (goal.at.returns-in-Known c).Else-bad_matrix, (named (goal.at.returns-in-Known c).After-mode_named).0 ∙ ap nameless mode)
-    (ap₂ Inputs.Passed (passed c.args.text.now n.n (sym c.check.ensures ∙ n.is)).count
-    (sym (ap (λ (told : Named). mode_in told (mode_by (goal.at.returns-in-Known c).Start)) mode) ∙ (named (goal.at.returns-in-Known c).After-mode_named).1))
+pub returns : goal.returns
+unfolding checked
+returns c =
+    let text = told_ok (text_refused c.args.job.now.text.now) _ _ (sym c.in_ok-n.was ∙ c.check.ensures) in
+    let mode = told_ok (mode_refused c.args.job.now.mode) _ _ c.in_ok-mode.ensures in
+    rw (
+      text.0,
+      sym c.uneven.ensures ∙ c.if-uneven.false,
+      le-ltb candidate_limit (length c.args.job.now.candidates.start.now) (omega arith),
+      sym c.bad_matrix.ensures ∙ c.if-bad_matrix.false,
+      mode.0,
+    )
+    (ap₂ (λ (n : ℕ) (mode : Mode). Ok (passed n mode)) (sym text.1) (sym mode.1))

@@ -15,7 +15,7 @@ told s k e = code_sized s.args.bytes.now s.args.size (omega arith) (omega arith)
 
 pub returns-then-size-eq1 : goal.returns-then-size-eq1
 unfolding six_bits
-returns-then-size-eq1 c = c.wide-lead.ensures ∙ sym (told (goal.at.returns-then-size-eq1 c).Start 0 (omega arith))
+returns-then-size-eq1 c = c.from-lead.ensures ∙ sym (told (goal.at.returns-then-size-eq1 c).Start 0 (omega arith))
 
 pub returns-then-size-eq2 : goal.returns-then-size-eq2
 unfolding six_bits

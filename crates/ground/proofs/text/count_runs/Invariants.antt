@@ -10,6 +10,3 @@ use Rattle.ground.proofs.text.count_runs.Given as goal
 abbrev pub invariant-loop-i : goal.invariant-loop-i
 invariant-loop-i l =
     (l.i ≤ l.n) × (length l.run ≡ length l.initial.run) × (l.run ≡ take l.i l.initial.run ++ behind l.initial.run l.n l.i) × (get_or l.run l.i 0 ≤ l.n - l.i)
-
-abbrev pub decreases-loop-i : goal.decreases-loop-i
-decreases-loop-i l = l.i

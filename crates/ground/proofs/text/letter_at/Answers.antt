@@ -1,47 +1,43 @@
--- The row of the first byte decides. Assumes nothing.
-use Prim.Native.Nat.{ℕ, ◌-◌}
+-- The first byte tells the row, and the row the character. Assumes nothing.
+use Prim.Native.Nat.{ℕ, ◌<◌}
 use mathlib.Core.Path.{◌≡◌, ap, ◌∙◌, sym}
-use mathlib.Core.List.{List}
-use native.Mathlib.Omega.{arith}
-use lib.ListN.{take, drop, get_or, length-drop}
-use Rattle.ground.specs.Text.{leads, lead_row, letter_of, letter_by, letter_at}
+use lib.ListN.{length, drop, get_or}
+use Rattle.std.proofs.Common.{rules}
+use Rattle.std.specs.Prelude.{Option, None, Some}
+use Rattle.ground.specs.Text.{leads, lead_row, letter_by, letter_at}
 use Rattle.ground.specs.declared.text.Lead.{Lead}
-use Rattle.ground.specs.declared.text.LeadFound.{LeadFound}
-use Rattle.ground.specs.declared.text.LeadFound.TheVariants.{Row, NoRow}
 use Rattle.ground.proofs.LeadLaws.{row_size, common, common_found}
-use Rattle.ground.proofs.LetterLaws.{letter_row, part_rest, part_first}
+use Rattle.ground.proofs.LetterLaws.{letter_row, no_letter}
 use Rattle.ground.proofs.text.letter_at.Goals as goal
-use Rattle.ground.proofs.text.letter_at.Goals.{In-Row, Start}
+use Rattle.ground.proofs.text.letter_at.Goals.{In_ok-lead}
 
--- the character by what is found for the lead byte
-by_lead : (s : goal.Start) (found : LeadFound) → lead_row leads (get_or s.args.text.now s.args.at 0) ≡ found → letter_by found (get_or (drop s.args.at s.args.text.now) 0 0) (drop 1 (drop s.args.at s.args.text.now)) ≡ letter_at (drop s.args.at s.args.text.now)
-by_lead s found e =
-    sym (letter_row (drop s.args.at s.args.text.now) found (omega (arith, length-drop s.args.at s.args.text.now))
-    (ap (λ (b : ℕ). lead_row leads b) (part_first s.args.text.now s.args.at) ∙ e))
+pub returns-in_err-lead : goal.returns-in_err-lead
+returns-in_err-lead c = c.from_residual.ensures ∙ sym (no_letter c.args.bytes.now (search rules))
 
--- the character by its row, of the part from the place on
-by_row : (s : goal.Start) (row : Lead) → lead_row leads (get_or s.args.text.now s.args.at 0) ≡ Row row
-    → (part : List ℕ) → part ≡ (drop s.args.at s.args.text.now) → letter_of row (get_or part 0 0) (take (row.size - 1) (drop 1 part)) ≡ letter_at (drop s.args.at s.args.text.now)
-by_row s row e part q =
-    ap (λ (l : List ℕ). letter_of row (get_or l 0 0) (take (row.size - 1) (drop 1 l))) q ∙ by_lead s (Row row) e
+-- the first byte
+first : (c : In_ok-lead) → (0 < length c.args.bytes.now) × (get_or c.args.bytes.now 0 0 ≡ c.in_ok-lead.field-0.now)
+first c = let e = c.in_ok-lead.ensures.item in (e.3.0, sym (e.3.1 0))
 
-row_found : (c : goal.In-Row) → lead_row leads (get_or c.args.text.now c.args.at 0) ≡ Row c.in-Row.row
-row_found c = sym c.lead_row.ensures ∙ c.in-Row.is
+-- the character by what is found for the first byte
+by_lead : (c : In_ok-lead) (found : Option Lead) → lead_row leads c.in_ok-lead.field-0.now ≡ found
+    → letter_by found (get_or c.args.bytes.now 0 0) (drop 1 c.args.bytes.now) ≡ letter_at c.args.bytes.now
+by_lead c found e = sym (letter_row c.args.bytes.now found (first c).0 (ap (λ (b : ℕ). lead_row leads b) (first c).1 ∙ e))
 
 pub returns-then-within : goal.returns-then-within
 returns-then-within c =
     c.letter_by.ensures
-    ∙ by_row (goal.at.returns-then-within c).Start common (common_found (get_or c.args.text.now c.args.at 0) (sym c.within.ensures ∙ c.if-within.true)) _ (part_rest c.args.text.now c.args.at)
+    ∙ by_lead (goal.at.returns-then-within c).In_ok-lead (Some common) (common_found c.in_ok-lead.field-0.now (sym c.within.ensures ∙ c.if-within.true))
 
-pub letter_by-requires-in-Row : goal.letter_by-requires-in-Row
-letter_by-requires-in-Row c =
-    let w = row_size (get_or c.args.text.now c.args.at 0) c.in-Row.row (row_found (goal.at.letter_by-requires-in-Row c).In-Row) in
-    (w.0, w.1, rw (part_rest c.args.text.now c.args.at) (omega (arith, length-drop c.args.at c.args.text.now)))
+pub returns-in_err-lead_row : goal.returns-in_err-lead_row
+returns-in_err-lead_row c =
+    c.from_residual-in_err-lead_row.ensures
+    ∙ by_lead (goal.at.returns-in_err-lead_row c).In_ok-lead None (sym c.in_err-lead_row.ensures)
 
-pub returns-in-Row : goal.returns-in-Row
-returns-in-Row c =
-    c.letter_by-in-Row.ensures ∙ by_row (goal.at.returns-in-Row c).Start c.in-Row.row (row_found (goal.at.returns-in-Row c).In-Row) _ (part_rest c.args.text.now c.args.at)
+pub letter_by-requires-2 : goal.letter_by-requires-2
+letter_by-requires-2 c =
+    let w = row_size c.in_ok-lead.field-0.now c.in_ok-lead_row.field-0 (sym c.in_ok-lead_row.ensures) in
+    (w.0, w.1, (first (goal.at.letter_by-requires-2 c).In_ok-lead).0)
 
-pub returns-in-NoRow : goal.returns-in-NoRow
-returns-in-NoRow c =
-    by_lead (goal.at.returns-in-NoRow c).Start NoRow (sym c.lead_row.ensures ∙ c.in-NoRow.is)
+pub returns : goal.returns
+returns c =
+    c.letter_by-2.ensures ∙ by_lead (goal.at.returns c).In_ok-lead (Some c.in_ok-lead_row.field-0) (sym c.in_ok-lead_row.ensures)

@@ -6,7 +6,7 @@ use native.Mathlib.Omega.{arith}
 use lib.ListN.{length, take, drop, get_or, length-take, length-drop}
 use Rattle.ground.specs.Text.{letter_of}
 use Rattle.ground.specs.Filling.{letter_of_size}
-use Rattle.ground.specs.declared.text.Decoded.TheVariants.{Whole, IllFormed}
+use Rattle.std.specs.Prelude.{None, Some}
 use Rattle.ground.proofs.LetterLaws.{too_short, judged}
 use Rattle.ground.proofs.text.letter_by.Goals as goal
 use Rattle.ground.proofs.text.letter_by.Goals.{After-may_follow, Start}
@@ -17,7 +17,7 @@ following_length s = simp (length-take, length-drop)
 -- there are as many bytes as the row says, and what stands behind the first decides
 decided : (c : goal.After-may_follow) (t : Bool) → c.may_follow.result ≡ t
     → letter_of c.args.row (get_or c.args.bytes.now 0 0) ((take (c.args.row.size - 1) (drop 1 c.args.bytes.now)))
-    ≡ cond t (Whole (letter_of_size c.args.bytes.now c.args.row.size)) IllFormed
+    ≡ cond t (Some (letter_of_size c.args.bytes.now c.args.row.size)) None
 decided c t e =
     judged c.args.row (get_or c.args.bytes.now 0 0) (take (c.args.row.size - 1) (drop 1 c.args.bytes.now)) (omega (arith, following_length (goal.at.After-may_follow c).Start)) t (sym c.may_follow.ensures ∙ e)
 
@@ -30,4 +30,4 @@ returns-then-not-may_follow c = sym (decided (goal.at.returns-then-not-may_follo
 
 pub returns : goal.returns
 returns c =
-    ap Whole c.letter_of_size.ensures ∙ sym (decided (goal.at.returns c).After-may_follow true c.if-not-may_follow.false)
+    ap Some c.letter_of_size.ensures ∙ sym (decided (goal.at.returns c).After-may_follow true c.if-not-may_follow.false)

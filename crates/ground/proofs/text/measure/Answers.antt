@@ -1,46 +1,39 @@
-use Prim.Native.Nat.{◌+◌, ◌≤◌}
-use mathlib.Core.Path.{◌≡◌, ap, ◌∙◌, sym}
+use Prim.Native.Nat.{ℕ, ◌≤◌}
+use mathlib.Core.Path.{ap, ◌∙◌, sym}
+use mathlib.Core.List.{List}
 use native.Mathlib.Omega.{arith}
-use lib.ListN.{length, drop}
-use Rattle.ground.specs.Text.{letter_at, sizes}
-use Rattle.ground.specs.declared.text.Decoded.TheVariants.{Whole}
-use Rattle.ground.proofs.LetterLaws.{letter_ends}
-use Rattle.ground.proofs.TextLaws.{letters_next, letters_end, letters_ill_formed}
+use lib.ListN.{length}
+use Rattle.ground.specs.Text.{letters, sizes}
+use Rattle.ground.proofs.LetterLaws.{letter_size}
+use Rattle.ground.proofs.TextLaws.{letters_whole, letters_ill_formed}
 use Rattle.ground.proofs.text.measure.Goals as goal
-use Rattle.ground.proofs.text.measure.Goals.{In-Whole}
+use Rattle.ground.proofs.text.measure.Goals.{In-Some}
 
-pub returns-in_default : goal.returns-in_default
+-- the character that was found, within the rest
+sized : (c : In-Some) → (1 ≤ c.in-Some.letter.size) × (c.in-Some.letter.size ≤ length c.loop-letter.rest.now)
+sized c = letter_size c.loop-letter.rest.now c.in-Some.letter (sym c.letter_at.ensures ∙ c.in-Some.is)
+
+pub split_at-requires : goal.split_at-requires
+split_at-requires c = (sized (goal.at.split_at-requires c).In-Some).1
+
+pub loop-letter-smaller : goal.loop-letter-smaller
+loop-letter-smaller c = omega (arith, sized (goal.at.loop-letter-smaller c).In-Some, c.split_at.ensures.back_len)
+
+pub loop-letter-preserved : goal.loop-letter-preserved
 unfolding sizes
-returns-in_default c =
-    let text = c.args.text.now in
-    let none = letters_ill_formed (drop c.loop-at.at text) (sym c.letter_at.ensures ∙ c.in_default.is) in
-    omega (arith, ap length none, ap sizes none)
-
--- the character that was found
-found : (c : goal.In-Whole) → letter_at (drop c.loop-at.at (c.args.text.now)) ≡ Whole c.in-Whole.letter
-found c = sym c.letter_at.ensures ∙ c.in-Whole.is
-
-ends : (c : goal.In-Whole)
-    → (1 ≤ c.in-Whole.letter.size) × (c.loop-at.at + c.in-Whole.letter.size ≤ length (c.args.text.now))
-ends c = letter_ends (c.args.text.now) c.loop-at.at c.in-Whole.letter (found c) c.loop-at.invariant.0
-
-pub overflow_add-at : goal.overflow_add-at
-overflow_add-at c = omega (arith, ends (goal.at.overflow_add-at c).In-Whole)
-
-pub overflow_add-n : goal.overflow_add-n
-overflow_add-n c = omega (arith, ends (goal.at.overflow_add-n c).In-Whole)
-
-pub loop-at-smaller : goal.loop-at-smaller
-loop-at-smaller c = omega (arith, ends (goal.at.loop-at-smaller c).In-Whole)
-
-pub loop-at-preserved : goal.loop-at-preserved
-unfolding sizes
-loop-at-preserved c =
-    let more = letters_next (c.args.text.now) c.loop-at.at c.in-Whole.letter (found (goal.at.loop-at-preserved c).In-Whole) in
-    omega (arith, ends (goal.at.loop-at-preserved c).In-Whole, ap length more, ap sizes more)
+loop-letter-preserved c =
+    let l = c.loop-letter.invariant in
+    let e = c.split_at.ensures in
+    let more = letters_whole c.loop-letter.rest.now c.in-Some.letter (sym c.letter_at.ensures ∙ c.in-Some.is) in
+    record {
+      counted = omega (arith, l.counted, ap length more, ap (λ (bytes : List ℕ). length (letters bytes)) e.back);
+      taken = omega (arith, l.taken, ap sizes more, ap (λ (bytes : List ℕ). sizes (letters bytes)) e.back, e.back_len);
+      few = omega (arith, l.few, sized (goal.at.loop-letter-preserved c).In-Some, e.back_len);
+    }
 
 pub returns : goal.returns
 unfolding sizes
 returns c =
-    let none = letters_end (c.args.text.now) c.loop-at.at (omega arith) in
-    omega (arith, ap length none, ap sizes none)
+    let none = letters_ill_formed c.loop-letter.rest.now (sym c.letter_at.ensures ∙ c.in_default.is) in
+    let l = c.loop-letter.invariant in
+    (omega (arith, l.counted, ap length none), omega (arith, l.taken, l.few, ap sizes none))

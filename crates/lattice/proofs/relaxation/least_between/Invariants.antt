@@ -3,17 +3,18 @@
 use Prim.Native.Nat.{◌-◌}
 use mathlib.Core.List.{List}
 use Rattle.ground.specs.Entry.{none_link}
+use Rattle.lattice.specs.Words.{given_by}
 use Rattle.lattice.specs.Lattice.{LatticeEntry, mark}
-use Rattle.lattice.specs.Inner.{in_row, Near, HeldBoth}
+use Rattle.lattice.specs.Rows.{held}
+use Rattle.lattice.specs.Inner.{in_row, NearPair, HeldBoth}
 use Rattle.lattice.proofs.GoingLaws.{Visited}
 use Rattle.lattice.proofs.relaxation.least_between.Given as goal
 
 abbrev pub invariant-loop-at : goal.invariant-loop-at
 invariant-loop-at l =
-    ((es : List LatticeEntry) → HeldBoth l.position es l.row l.other_row l.start l.entry l.run l.mode l.first l.last l.cost l.next
-    → Visited (in_row l.row) (mark l.position) es l.one l.at × Visited (in_row l.other_row) (mark l.position) es l.other l.at)
-    × Near l.position l.one.cost
-    × Near l.position l.other.cost
+    ((es : List LatticeEntry) → HeldBoth l.position es l.row l.other_row (given_by l.sentence) (held l.rows)
+    → Visited (in_row l.row) (mark l.position) es l.least.one l.at × Visited (in_row l.other_row) (mark l.position) es l.least.other l.at)
+    × NearPair l.position l.least
 
 abbrev pub decreases-loop-at : goal.decreases-loop-at
 decreases-loop-at l = none_link - l.at

@@ -1,18 +1,13 @@
 use Prim.Native.Nat.{ℕ, ◌-◌, ◌≤◌, ◌<◌}
-use mathlib.Core.Path.{◌∙◌, ap, sym, subst}
-use mathlib.Core.List.{List, [], ◌∷◌, map-id}
+use mathlib.Core.Path.{◌∙◌, ap, subst}
+use mathlib.Core.List.{List, ◌∷◌, map-id}
 use native.Mathlib.Omega.{arith}
 use lib.ListN.{length, get_or, set}
 use Rattle.ground.specs.Rows.{over}
-use Rattle.walk.proofs.Passes.{sure_link, linking_none, linking_more, linking_all, placed_none, placed_more, placed_all}
+use Rattle.walk.proofs.Passes.{sure_link, linking_more, linking_all, placed_more, placed_all}
 use Rattle.walk.proofs.walk_back.write.Invariants.{Writing}
 use Rattle.walk.proofs.walk_back.write.Goals as goal
 use Rattle.walk.proofs.walk_back.write.Goals.{In-loop-i}
-
-pub loop-i-init : goal.loop-i-init
-loop-i-init c =
-    let a = c.args in
-    ([], linking_none a.left.now a.mark a.count c.requires.0, placed_none (λ (k : ℕ). k) a.count a.word.now c.requires.1)
 
 -- the link that is to be followed
 link : (c : goal.In-loop-i)
@@ -30,10 +25,7 @@ pub bounds-left-entry : goal.bounds-left-entry
 bounds-left-entry c = (link (goal.at.bounds-left-entry c).In-loop-i).0
 
 pub overflow_sub-word : goal.overflow_sub-word
-overflow_sub-word c = omega (arith, c.wide-link.ensures, link (goal.at.overflow_sub-word c).In-loop-i)
-
-pub overflow_cast-word : goal.overflow_cast-word
-overflow_cast-word c = omega (arith, c.wide-link.ensures, c.shared_slice_known-in-loop-i-1.given c.loop-i.entry)
+overflow_sub-word c = omega (arith, link (goal.at.overflow_sub-word c).In-loop-i)
 
 pub loop-i-preserved : goal.loop-i-preserved
 loop-i-preserved c =
@@ -42,15 +34,12 @@ loop-i-preserved c =
     let t = c.loop-i-test.true in
     let link = get_or a.left.now l.entry 0 in
     subst
-    (λ (link : ℕ). Writing a.left.now a.mark a.count a.word.now (set l.word (l.i - 1) (link - 1)) link (l.i - 1))
-    (sym c.wide-link.ensures) (
+    (λ (entry : ℕ). Writing a.left.now a.mark a.count a.word.now (set l.word (l.i - 1) (link - 1)) entry (l.i - 1))
+    (omega arith) (
       (link - 1) ∷ l.invariant.0,
       linking_more a.left.now a.mark a.count l.invariant.0 l.entry l.i l.invariant.1 t,
       placed_more (λ (k : ℕ). k) a.count a.word.now c.requires.1 l.invariant.0 l.word l.i (link - 1) t l.invariant.1.within l.invariant.2,
     )
-
-pub shape_of-word : goal.shape_of-word
-shape_of-word c = c.loop-i.invariant.2.kept
 
 pub returns : goal.returns
 returns c =

@@ -11,6 +11,3 @@ Writing left mark count word₀ word entry i =
 
 abbrev pub invariant-loop-i : goal.invariant-loop-i
 invariant-loop-i l = Writing l.left l.mark l.count l.initial.word l.word l.entry l.i
-
-abbrev pub decreases-loop-i : goal.decreases-loop-i
-decreases-loop-i l = l.i

@@ -1,11 +1,11 @@
--- The loop's invariant is `Writing`. Assumes nothing.
+-- The loop's invariant is `Writing`, and that the rows are those that were lent. Assumes nothing.
+use Rattle.walk.specs.Inner.{SameRows}
 use Rattle.walk.proofs.WordLaws.{Writing}
 use Rattle.walk.proofs.words.write.Given as goal
 
 abbrev pub invariant-loop-i : goal.invariant-loop-i
 invariant-loop-i l =
-    Writing l.start l.kind l.entry l.offset l.left l.count l.initial.word_offset l.initial.word_id l.initial.word_kind l.word_offset l.word_id l.word_kind l.at l.i
-
-abbrev pub decreases-loop-i : goal.decreases-loop-i
-decreases-loop-i l =
-    l.i
+    Writing l.candidates.start.now l.candidates.kind.now l.candidates.entry.now l.offset l.left l.count
+    l.initial.rows.offset.now l.initial.rows.id.now l.initial.rows.kind.now
+    l.rows.offset.now l.rows.id.now l.rows.kind.now l.at l.i
+    × SameRows l.initial.rows l.rows

@@ -1,17 +1,11 @@
 -- In each arm the mode is the arm's case, at which the charge computes. Assumes nothing.
-use mathlib.Core.Path.{◌∙◌, subst}
+use mathlib.Core.Path.{◌∙◌}
 use native.Mathlib.Omega.{arith}
 use borrow.Author.Tests.{le-leb, lt-leb}
 use mir.Syntax.{w32}
-use Rattle.ground.specs.Charge.{charge, PricesFit}
+use Rattle.ground.specs.Charge.{charge}
 use Rattle.ground.proofs.SignedLaws.{back}
 use Rattle.ground.proofs.charge.Mode.charge.Goals as goal
-
-pub above-requires : goal.above-requires
-above-requires c = (subst PricesFit c.in-Decompose.is c.requires).0
-
-pub above-requires-else-len-run : goal.above-requires-else-len-run
-above-requires-else-len-run c = (subst PricesFit c.in-Decompose.is c.requires).1
 
 pub returns-in-Normal : goal.returns-in-Normal
 unfolding charge
