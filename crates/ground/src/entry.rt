@@ -30,12 +30,11 @@ pub fn four(bytes: &[u8], i: usize) -> u32
     u32::from_le_bytes([bytes[i], bytes[i + 1], bytes[i + 2], bytes[i + 3]])
 }
 
-// Two bytes, the lower one first, read with a sign.
-pub fn two_signed(bytes: &[u8], i: usize) -> i16
-    requires { i + 1 < length bytes.now }
-    ensures { result ≡ signed16 (u16_at bytes.now i) }
+// Sixteen bits, read with a sign.
+pub fn signed(bits: u16) -> i16
+    ensures { result ≡ signed16 bits }
 {
-    two(bytes, i).cast_signed()
+    bits.cast_signed()
 }
 
 impl Entry {
@@ -55,7 +54,7 @@ impl Entry {
     {
         Entry {
             id: four(bytes, 0),
-            cost: two_signed(bytes, 4),
+            cost: signed(two(bytes, 4)),
             left_id: two(bytes, 6),
             right_id: two(bytes, 8),
         }

@@ -14,23 +14,20 @@ pub struct Matrix<'a> {
     pub values: &'a [i16],
 }
 
-impl<'a> Matrix<'a> {
-    // The row of a later word's left id.
-    pub fn row(&self, left_id: u16) -> &'a [i16]
-        requires { left_id * self.now.width + self.now.width ≤ length self.now.values.now }
-        ensures { result.now ≡ matrix_row self.now.values.now self.now.width left_id }
-    {
-        let width = self.width as usize;
-        let from = usize::from(left_id) * width;
-        let to = from + width;
-        &self.values[from..to]
-    }
+// The row of a later word's left id.
+pub fn row(matrix: &[i16], width: usize, left_id: usize) -> &[i16]
+    requires { left_id * width + width ≤ length matrix.now }
+    ensures { result.now ≡ matrix_row matrix.now width left_id }
+{
+    let from = left_id * width;
+    let to = from + width;
+    &matrix[from..to]
 }
 
 // The joint with an earlier word's right id, and that sixteen bits hold it: the mag of n and of −1 − n is n, so it is −32,768 to 32,767.
-pub fn joint(row: &[i16], right_id: u16) -> i32
+pub fn joint(row: &[i16], right_id: usize) -> i32
     requires { right_id < length row.now }
     ensures { (result ≡ value_in row.now right_id) × (mag result < 2 ^ 15) }
 {
-    i32::from(row[usize::from(right_id)])
+    i32::from(row[right_id])
 }

@@ -34,7 +34,7 @@ given start end extra entry run mode matrix width =
 abbrev pub given_by : Sentence → Given
 given_by s =
     let c = s.candidates in
-    given c.start.now c.end.now c.extra.now c.entry.now s.run.now s.mode s.matrix.values.now s.matrix.width
+    given c.start.now c.end.now c.extra.now c.entry.now s.run.now s.mode s.matrix.now s.width
 
 -- c, the number of candidates.
 abbrev pub count : Given → ℕ

@@ -12,6 +12,7 @@ use crate::relaxation;
 use crate::rows::{self, NewEntry, Rows};
 use crate::sentence::Sentence;
 use ground::entry::Entry;
+use ground::matrix;
 
 // The start mark goes into the rows.
 fn start_mark(n: usize, rows: &mut Rows)
@@ -91,19 +92,23 @@ fn two_words(k: usize, n: usize, sentence: &Sentence, rows: &mut Rows) -> usize
     let other = beside(k, sentence);
     let word = word_at(k, n, sentence);
     let other_word = word_at(other, n, sentence);
-    let row = sentence.matrix.row(word.left_id);
-    let other_row = sentence.matrix.row(other_word.left_id);
+    let row = matrix::row(sentence.matrix, sentence.width, usize::from(word.left_id));
+    let other_row = matrix::row(
+        sentence.matrix,
+        sentence.width,
+        usize::from(other_word.left_id),
+    );
     let pair = relaxation::relax(word.start, row, other_row, sentence, rows);
     rows::enter_two(
         NewEntry {
             number: (k + 1) as u16,
-            end: word.end,
+            end: usize::from(word.end),
             taken: pair.map(|offers| offers.one),
             own_cost: word.own_cost,
         },
         NewEntry {
             number: (other + 1) as u16,
-            end: other_word.end,
+            end: usize::from(other_word.end),
             taken: pair.map(|offers| offers.other),
             own_cost: other_word.own_cost,
         },

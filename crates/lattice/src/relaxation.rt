@@ -58,7 +58,7 @@ fn offers_of(
     ensures other { result.other ≡ offer_of other_row.now (given_by sentence.now) (held rows.now) position k }
     ensures near_pair { NearPair position result }
 {
-    let right_id = Entry::right_id_of(sentence.candidates.entry, k);
+    let right_id = usize::from(Entry::right_id_of(sentence.candidates.entry, k));
     let charged = charge(k, position, sentence);
     let cost = rows.cost[k + 1];
     let from = (k + 1) as u16;
@@ -125,7 +125,7 @@ fn from_start(row: &[i16]) -> Offer
 {
     Offer {
         from: Entry::START,
-        cost: matrix::joint(row, Entry::MARK_ID),
+        cost: matrix::joint(row, usize::from(Entry::MARK_ID)),
     }
 }
 

@@ -47,7 +47,7 @@ pub fn link(x: u16, position: usize, rows: &mut Rows)
 #[derive(Clone, Copy)]
 pub struct NewEntry {
     pub number: u16,
-    pub end: u16,
+    pub end: usize,
     pub taken: Option<Offer>,
     pub own_cost: i32,
 }
@@ -68,7 +68,7 @@ pub fn enter(word: NewEntry, rows: &mut Rows)
         Some(offer) => {
             rows.left[at] = offer.from;
             rows.cost[at] = offer.cost + word.own_cost;
-            link(word.number, usize::from(word.end), rows);
+            link(word.number, word.end, rows);
         }
     }
 }

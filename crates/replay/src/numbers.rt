@@ -62,7 +62,7 @@ impl Told for i16 {
     ghost exact = { Decides-int_eq };
 
     fn read(bytes: &[u8], from: usize) -> i16 {
-        entry::two(bytes, from).cast_signed()
+        entry::signed(entry::two(bytes, from))
     }
 }
 

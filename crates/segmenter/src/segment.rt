@@ -71,7 +71,8 @@ fn work(
         candidates: job.candidates,
         run: &run[..=n],
         mode: passed.mode,
-        matrix: job.matrix,
+        matrix: job.matrix.values,
+        width: job.matrix.width as usize,
     };
     forward::forward_pass(n, &sentence, rows);
     finish(n, &job.candidates, &offset[..=n], rows, words)

@@ -83,12 +83,12 @@ other_read c =
 row_is : (c : goal.After-row-row) → let s = (goal.at.After-row-row c).Start in RowOf (G s) (W s) c.row-row.result.now
 row_is c =
     let g = G (goal.at.After-row-row c).Start in
-    c.row-row.ensures ∙ ap (matrix_row g.matrix g.width) (word_read (goal.at.After-row-row c).After-word_at-word).left_id
+    c.row-row.ensures ∙ ap (matrix_row g.matrix g.width) (c.from.ensures ∙ (word_read (goal.at.After-row-row c).After-word_at-word).left_id)
 
 other_row_is : (c : goal.After-row-other_row) → let s = (goal.at.After-row-other_row c).Start in RowOf (G s) (W' s) c.row-other_row.result.now
 other_row_is c =
     let g = G (goal.at.After-row-other_row c).Start in
-    c.row-other_row.ensures ∙ ap (matrix_row g.matrix g.width) (other_read (goal.at.After-row-other_row c).After-word_at-other_word).left_id
+    c.row-other_row.ensures ∙ ap (matrix_row g.matrix g.width) (c.from-2.ensures ∙ (other_read (goal.at.After-row-other_row c).After-word_at-other_word).left_id)
 
 -- ---- what is taken
 
@@ -194,11 +194,11 @@ other_map_is c = search rules
 -- so it is with what is handed here
 handed : (c : goal.After-map-2) → Handed (goal.at.After-map-2 c).Start
     (c.args.k + 1)
-    c.word_at-word.result.end
+    c.from-3.result
     c.map.result
     (to_z w32 (of_z w32 c.word_at-word.result.own_cost))
     (c.beside-other.result + 1)
-    c.word_at-other_word.result.end
+    c.from-4.result
     c.map-2.result
     (to_z w32 (of_z w32 c.word_at-other_word.result.own_cost))
 handed c =
@@ -206,11 +206,11 @@ handed c =
     let other = other_read (goal.at.After-map-2 c).After-word_at-other_word in
     record {
       number = add-one c.args.k;
-      end = read.end;
+      end = c.from-3.ensures ∙ read.end;
       took = map_is c ∙ found (goal.at.After-map-2 c).After-relax-pair;
       own = to_z-of_z (small_fits _ (record { most = c.word_at-word.ensures.own_cost_bound.0; least = c.word_at-word.ensures.own_cost_bound.1 })) ∙ read.own_cost;
       other_number = add-one c.beside-other.result ∙ ap suc c.beside-other.ensures;
-      other_end = other.end;
+      other_end = c.from-4.ensures ∙ other.end;
       other_took = other_map_is c ∙ other_found (goal.at.After-map-2 c).After-relax-pair;
       other_own = to_z-of_z (small_fits _ (record { most = c.word_at-other_word.ensures.own_cost_bound.0; least = c.word_at-other_word.ensures.own_cost_bound.1 })) ∙ other.own_cost;
     }

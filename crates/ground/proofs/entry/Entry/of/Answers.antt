@@ -8,6 +8,6 @@ use Rattle.ground.proofs.entry.Entry.of.Goals as goal
 pub returns : goal.returns
 unfolding entry_of
 returns c =
-    let cost = c.two_signed in
+    let cost = c.signed in
     let q = back w16 cost.result cost.type_inv ∙ cost.ensures in
     cc
