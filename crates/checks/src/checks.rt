@@ -166,7 +166,8 @@ fn bad_id(matrix: &Matrix, entry: &[u8], k: usize) -> bool
     matrix.height <= u32::from(word.left_id) || matrix.width <= u32::from(word.right_id)
 }
 
-// The tests of candidate k. (Even rows are asked for here and below, and are no type: rows that come in may be uneven, which test 3 tells.)
+// The tests of candidate k. (Even rows are asked for here and below, and are no type: `check_inputs` would hand on a second kind of
+// candidates beside the one that the job holds. Nor are n, candidates and matrix a struct: they are the part of a job that these tests read.)
 fn check_candidate(
     n: usize,
     candidates: &Candidates,

@@ -1,6 +1,6 @@
 -- The pass that fills the offset row and the kanji bits: what both rows hold on the way. Assumes nothing.
 use Prim.Native.Nat.{ℕ, ◌+◌, ◌≤◌}
-use mathlib.Core.Path.{◌≡◌, refl, ap, ◌∙◌, sym}
+use mathlib.Core.Path.{◌≡◌, ap, ◌∙◌, sym}
 use mathlib.Core.List.{List}
 use native.Mathlib.Omega.{arith}
 use native.Mathlib.Numerals.{add-one}
@@ -24,18 +24,6 @@ pub record Filled (text offset₀ run₀ offset run : List ℕ) (at i : ℕ) : T
   pub run_left : sets run i (kanji_bits (letters (drop at text))) ≡ sets run₀ 0 (kanji_bits (letters text))
 
 module _ (text offset₀ run₀ : List ℕ) where
-  pub filled_none : Filled text offset₀ run₀ offset₀ run₀ 0 0
-  filled_none =
-      record {
-        within = omega arith;
-        offset_long = refl;
-        run_long = refl;
-        count = omega arith;
-        bytes = omega arith;
-        offset_left = refl;
-        run_left = refl;
-      }
-
   -- one character more
   pub filled_more : (offset run : List ℕ) (at i : ℕ) (letter : Letter) → letter_at (drop at text) ≡ Some letter
       → Filled text offset₀ run₀ offset run at i

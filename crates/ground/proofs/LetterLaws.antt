@@ -7,7 +7,7 @@ use native.Mathlib.Omega.{arith}
 use lib.Dec.{eqb}
 use lib.ListN.{length, take, drop, get_or, length-take, length-drop}
 use lib.Seq.{drop-cons, length-take-le, take_all}
-use borrow.Author.Tests.{eqb-true, eq-eqb, ne_eqb}
+use borrow.Author.Tests.{eqb-true, ne_eqb}
 use Rattle.ground.specs.Text.{leads, lead_row, is_second, is_later, all_later, may_follow, lead_bits, six_bits, code_of, letter_of, letter_by, letter_at}
 use Rattle.ground.specs.Filling.{letter_of_size}
 use Rattle.ground.specs.declared.text.Lead.{Lead}
@@ -18,12 +18,6 @@ use Rattle.ground.proofs.LeadLaws.{row_size}
 -- no character is made of too few bytes
 pub too_short : (row : Lead) (byte : ℕ) (following : List ℕ) → suc (length following) < row.size → letter_of row byte following ≡ None
 too_short row byte following h = rw (ne_eqb (suc (length following)) row.size (λ e. omega arith))
-
--- with as many bytes as the row says, what follows the lead byte decides
-pub judged : (row : Lead) (byte : ℕ) (following : List ℕ) → suc (length following) ≡ row.size → (t : Bool) → may_follow row following ≡ t
-    → letter_of row byte following
-    ≡ cond t (Some (record { size = row.size; code = code_of byte following })) None
-judged row byte following e t m = rw (eq-eqb (suc (length following)) row.size e, m)
 
 -- the row of the first byte decides
 pub letter_row : (bytes : List ℕ) (found : Option Lead) → 0 < length bytes → lead_row leads (get_or bytes 0 0) ≡ found

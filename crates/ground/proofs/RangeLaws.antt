@@ -1,15 +1,12 @@
 -- Ranges of numbers, and the 0 or 1 that says whether a number has reached one. Assumes nothing.
-use Prim.Native.Nat.{ℕ, ◌+◌, ◌≤◌, ◌<◌}
-use mathlib.Core.Path.{◌≡◌, refl, ap, ◌∙◌, sym}
-use mathlib.Core.Bool.{Bool, true, false, cond, ◌&&◌, ◌||◌, false≢true, and-false}
+use Prim.Native.Nat.{ℕ, ◌≤◌, ◌<◌}
+use mathlib.Core.Path.{◌≡◌, refl}
+use mathlib.Core.Bool.{Bool, true, false, cond, ◌&&◌, false≢true}
 use native.Mathlib.Omega.{arith}
 use lib.Dec.{leb}
 use borrow.Author.Tests.{leb-true, leb-false, le-leb, lt-leb}
 use Rattle.ground.specs.Text.{within}
-use Rattle.ground.specs.Filling.{at_least, in_block, kanji_bit}
-
-pub above_range : (low high x : ℕ) → high < x → within low high x ≡ false
-above_range low high x h = rw (lt-leb x high h, and-false)
+use Rattle.ground.specs.Filling.{at_least, kanji_bit}
 
 -- a range is told by its ends
 pub in_range : (low high x : ℕ) → within low high x ≡ true → (low ≤ x) × (x ≤ high)
@@ -19,9 +16,6 @@ in_range low high x e = go (leb low x) refl (leb x high) refl e
     go true f true g e = (leb-true low x f, leb-true x high g)
     go true f false g e = absurd (false≢true e)
     go false f t g e = absurd (false≢true e)
-
-pub out_of_range : (low high x : ℕ) → within low high x ≡ false → low ≤ x → high < x
-out_of_range low high x e l = leb-false x high (ap (λ (t : Bool). t && leb x high) (sym (le-leb low x l)) ∙ e)
 
 pub at_least_below : (low x : ℕ) → x < low → at_least low x ≡ 0
 at_least_below low x h = rw (lt-leb low x h)
@@ -36,23 +30,6 @@ at_least_mono low a b h = go (leb low a) refl (leb low b) refl
     go false e t f = omega arith
     go true e true f = omega arith
     go true e false f = absurd (omega (arith, leb-true low a e, leb-false low b f))
-
--- two blocks apart: a number lies in one of them, the other, or none
-pub blocks : (low high low' high' x : ℕ) → high' < low
-    → in_block low high x + in_block low' high' x ≡ cond (within low high x || within low' high' x) 1 0
-blocks low high low' high' x apart = go (leb low x) refl (leb x high) (leb low' x) (leb x high') refl
-  where
-    go : (s : Bool) → leb low x ≡ s → (t u v : Bool) → leb x high' ≡ v
-        → cond (s && t) 1 0 + cond (u && v) 1 0 ≡ cond (s && t || u && v) 1 0
-    go true e true true true f = absurd (omega (arith, leb-true low x e, leb-true x high' f))
-    go true e true true false f = omega arith
-    go true e true false v f = omega arith
-    go true e false true true f = omega arith
-    go true e false true false f = omega arith
-    go true e false false v f = omega arith
-    go false e t true true f = omega arith
-    go false e t true false f = omega arith
-    go false e t false v f = omega arith
 
 -- no kanji comes before the first block
 pub no_kanji_below : (code : ℕ) → code < 0x3400 → kanji_bit code ≡ 0

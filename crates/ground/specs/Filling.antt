@@ -1,6 +1,6 @@
 -- Inner, no part of document 01: what the functions under the character table leave on the way.
 use Rattle.std.specs.Prelude.{ℕ, ◌+◌, ◌-◌, Bool, cond, not, List, [], ◌∷◌, take, drop, get_or, leb, eqb}
-use Rattle.ground.specs.Text.{within, code_of, is_kanji, run_ahead}
+use Rattle.ground.specs.Text.{code_of, is_kanji, run_ahead}
 use Rattle.ground.specs.declared.text.Letter.{Letter}
 
 -- 1 for yes and 0 for no.
@@ -19,10 +19,6 @@ size_by_lead lead = 1 + at_least 0x80 lead + at_least 0xe0 lead + at_least 0xf0 
 abbrev pub letter_of_size : List ℕ → ℕ → Letter
 letter_of_size bytes size =
     record { size = size; code = code_of (get_or bytes 0 0) (take (size - 1) (drop 1 bytes)) }
-
--- 1 in a block of code points, and 0 outside.
-abbrev pub in_block : ℕ → ℕ → ℕ → ℕ
-in_block low high code = bit (within low high code)
 
 -- 1 for a kanji and 0 for another character.
 abbrev pub kanji_bit : ℕ → ℕ

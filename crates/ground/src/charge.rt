@@ -17,6 +17,7 @@ pub struct Penalty {
     pub other_price: u16,
 }
 
+// (An enum and no Option: both have a name in the paper.)
 #[derive(Clone, Copy, Debug, PartialEq, Eq)]
 pub enum Mode {
     Normal,

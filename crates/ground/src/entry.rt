@@ -47,7 +47,7 @@ impl Entry {
     // How many bytes a word entry has.
     pub const BYTES: usize = 10;
 
-    // The entry of ten bytes. (No From: it asks for just ten.)
+    // The entry of ten bytes. (No From of an array: of a part of the lent row one could be made only with a None that never comes.)
     fn of(bytes: &[u8]) -> Entry
         requires { length bytes.now ≡ entry_bytes }
         ensures { result ≡ entry_of bytes.now }
@@ -60,7 +60,8 @@ impl Entry {
         }
     }
 
-    // Candidate k's ten bytes: the part of the lent bytes that starts at 10 × k.
+    // Candidate k's ten bytes: the part of the lent bytes that starts at 10 × k. (That they are there is asked for, here and below: the row is C's, and its
+    // length alone tells how many entries it has.)
     fn part(bytes: &[u8], k: usize) -> &[u8]
         requires { k * entry_bytes + entry_bytes ≤ length bytes.now }
         ensures { (result.now ≡ entry_part bytes.now k) × (length result.now ≡ entry_bytes) }

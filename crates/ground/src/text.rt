@@ -2,9 +2,9 @@
 ghost use Rattle.std.specs.Prelude.{◌≡◌, ◌+◌, ◌-◌, ◌*◌, ◌%◌, ◌<◌, ◌≤◌, length, take, drop, get_or};
 ghost use Rattle.ground.specs.Limits.{character_limit};
 ghost use Rattle.ground.specs.Rows.{over};
-ghost use Rattle.ground.specs.Text.{leads, lead_row, may_follow, letter_of, letter_at, letters, sizes, offsets, runs, run_of};
+ghost use Rattle.ground.specs.Text.{leads, lead_row, may_follow, letter_of, letter_at, letters, sizes, offsets, is_kanji, runs, run_of};
 ghost use Rattle.ground.specs.Characters.{checked, Sound, outcome};
-ghost use Rattle.ground.specs.Filling.{at_least, size_by_lead, letter_of_size, in_block, kanji_bit, is_set, kanji_bits, counted};
+ghost use Rattle.ground.specs.Filling.{size_by_lead, letter_of_size, kanji_bit, is_set, kanji_bits, counted};
 
 use crate::answer::{Answer, Done, Refusal};
 
@@ -123,7 +123,8 @@ fn lead_row(byte: u8) -> Option<Lead>
     None
 }
 
-// Whether what stands behind the lead byte may follow it.
+// Whether what stands behind the lead byte may follow it. (That a size is from 1 to 4 is asked for, here and below, and is no invariant of `Lead`: its
+// rows are plain data in specs/, where each would carry a proof.)
 fn may_follow(row: Lead, bytes: &[u8]) -> bool
     requires { (1 ≤ row.size) × (row.size ≤ 4) × (row.size ≤ length bytes.now) }
     ensures { result ≡ may_follow row (take (row.size - 1) (drop 1 bytes.now)) }
@@ -252,28 +253,18 @@ pub fn check(text: &[u8]) -> Result<usize, Refusal>
     Ok(m.n)
 }
 
-// 1 from `low` on, and 0 below.
-fn at_least(low: u32, x: u32) -> u16
-    ensures { (result ≡ at_least low x) × (result ≤ 1) }
+// Both blocks are looked at, so that nothing is jumped over.
+fn is_kanji(code: u32) -> bool
+    ensures { result ≡ is_kanji code }
 {
-    u16::from(low <= x)
+    (0x4e00..=0x9faf).contains(&code) | (0x3400..=0x4dbf).contains(&code)
 }
 
-// 1 from `low` to `high`, and 0 elsewhere.
-fn in_block(low: u32, high: u32, code: u32) -> u16
-    ensures { (result ≡ in_block low high code) × (result ≤ 1) }
-{
-    if high < code {
-        return 0;
-    }
-    at_least(low, code)
-}
-
-// 1 for a kanji and 0 for another character: the run row holds it until the runs are counted.
+// 1 for a kanji and 0 for another character: a number, since the run row holds it until the runs are counted.
 fn kanji_bit(code: u32) -> u16
     ensures { result ≡ kanji_bit code }
 {
-    in_block(0x4e00, 0x9faf, code) + in_block(0x3400, 0x4dbf, code)
+    u16::from(is_kanji(code))
 }
 
 // What the filling takes of a character: its length and its kanji bit.
@@ -317,7 +308,8 @@ fn known_step(text: &[u8], at: usize) -> Step
     step_by_lead(&text[at..])
 }
 
-// The offset row, and in the run row 1 for each kanji.
+// The offset row, and in the run row 1 for each kanji. (The text, n and both rows go beside one another, here and below: out of a struct a part of the
+// run row would be lent on without its contents, and C may lend rows that are longer than n + 1.)
 fn fill_bits(text: &[u8], n: usize, offset: &mut [u32], run: &mut [u16])
     requires sound { Sound text.now n }
     requires room { (n < length offset.old) × (n < length run.old) }
@@ -343,7 +335,7 @@ fn run_of(bit: u16, behind: u16) -> u16
     if bit == 0 { 0 } else { 1 + behind }
 }
 
-// The first n places of the row, kanji bits, made runs from the right. (C may lend a row that is longer: so n goes beside it, here and below.)
+// The first n places of the row, kanji bits, made runs from the right.
 fn count_runs(run: &mut [u16], n: usize)
     requires { (n < length run.old) × (n ≤ character_limit) × (get_or run.old n 0 ≡ 0) }
     ensures { run.new ≡ counted (take n run.old) (drop n run.old) }

@@ -23,7 +23,7 @@ pub fn jumelavorp_characters(text: &[u8], offset: &mut [u32], run: &mut [u16]) -
     Numbers::from(text::characters(text, offset, run))
 }
 
-// The whole job.
+// The whole job. (C's parameters, one by one, go into the structs here.)
 pub fn jumelavorp_segment(
     text: &[u8],
     start: &[u16],

@@ -1,4 +1,4 @@
-// The C library: jumelavorp's functions under their promises. include/jumelavorp.h declares it.
+// The C library: jumelavorp's functions under their promises, once more, since C needs them by these names and parameters. include/jumelavorp.h declares it.
 #![tactic(auto)]
 
 ghost use Rattle.checks.specs.Job.{job, job_rows};

@@ -1,6 +1,5 @@
 -- How far sums of whole numbers lie above zero and below: both only add up, so a sum's range is a question of natural numbers. Assumes nothing.
 use Prim.Native.Nat.{ℕ, suc, ◌+◌, ◌-◌, ◌*◌, ◌≤◌, ◌<◌, ◌^◌}
-use mathlib.Core.Path.{◌≡◌}
 use mathlib.Core.Bool.{Bool, true, false, cond}
 use native.Mathlib.Omega.{arith}
 use lib.Dec.{ltb}
@@ -8,8 +7,7 @@ use lib.IntN.{ℤ, pos, negsuc, ◌+ℤ◌}
 use lib.Signed.{mag}
 use Rattle.std.proofs.Common.{Option, None, Some}
 use mir.Syntax.{Width, w16, w32}
-use mir.Val.{SFits, hbits, to_z, of_z}
-use mir.Facts.{to_z-of_z}
+use mir.Val.{SFits, hbits}
 use Rattle.ground.specs.Limits.{character_limit, price_limit}
 use Rattle.lattice.specs.Words.{Word}
 use Rattle.lattice.specs.Lattice.{entry_by}
@@ -56,10 +54,6 @@ up_mag (negsuc n) = omega arith
 pub down_mag : (z : ℤ) → down z ≤ suc (mag z)
 down_mag (pos n) = omega arith
 down_mag (negsuc n) = omega arith
-
--- Such a number is read back as it is.
-pub back : (z : ℤ) → mag z < 2 ^ 31 → to_z w32 (of_z w32 z) ≡ z
-back z h = to_z-of_z (fits w32 z (omega (arith, up_mag z)) (omega (arith, down_mag z)))
 
 -- Of sixteen bits they are no more than these.
 pub up_16 : (z : ℤ) → SFits w16 z → up z ≤ 32767

@@ -68,7 +68,8 @@ fn word_at(k: usize, n: usize, sentence: &Sentence) -> Incoming
     }
 }
 
-// Which word goes in together with word k: the next candidate, if it starts where k does, and otherwise k itself.
+// Which word goes in together with word k: the next candidate, if it starts where k does, and otherwise k itself. (No Option: k is relaxed beside itself then,
+// which needs no jump.)
 fn beside(k: usize, sentence: &Sentence) -> usize
     requires { (k ≤ count (given_by sentence.now)) × (count (given_by sentence.now) ≤ candidate_limit) }
     ensures { result ≡ beside_of (given_by sentence.now) k }
@@ -80,8 +81,8 @@ fn beside(k: usize, sentence: &Sentence) -> usize
     k + usize::from(start[k] == start[k + 1])
 }
 
-// Words k and beside k go into the lattice; the number of the word behind them comes back. (Here and below what is accepted is asked for, and is no
-// type: `Accepted` is what document 01's tests leave, said over the records that its rules speak of.)
+// Words k and beside k go into the lattice; the number of the word behind them comes back. (What is accepted, and the room, are asked for here and
+// below, and are no types: the theorems take `Accepted` and `Room` of the rules' own records.)
 fn two_words(k: usize, n: usize, sentence: &Sentence, rows: &mut Rows) -> usize
     requires accepted { (k ≤ count (given_by sentence.now)) × Accepted n (given_by sentence.now) × AllSized (entries_to (given_by sentence.now) k) }
     requires room { Room n (count (given_by sentence.now) + 2) (held rows.old) × Filled n (entries_to (given_by sentence.now) k) (held rows.old) (held rows.old) }

@@ -9,7 +9,8 @@ use crate::relaxation::Offer;
 use ground::entry::Entry;
 use std::hint::select_unpredictable;
 
-// The five rows, as a caller lends them. First and last have a place for each position, left, cost and next one for each entry.
+// The five rows, as a caller lends them. (Each function that writes through them ensures that they are the same rows, `SameRows`: another row could be put
+// in one's place.) First and last have a place for each position, left, cost and next one for each entry.
 #[derive(Drop)]
 pub struct Rows<'a> {
     pub first: &'a mut [u16],

@@ -2,7 +2,8 @@
 use ground::candidates::Candidates;
 use ground::charge::Mode;
 
-// The candidate rows, the kanji run of each position, the mode, and the matrix with its width.
+// The candidate rows, the kanji run of each position, the mode, and the matrix with its width. (No `Matrix`: its height is not read, and its width would be
+// narrower than what is taken here.)
 #[derive(Clone, Copy)]
 pub struct Sentence<'a> {
     pub candidates: Candidates<'a>,

@@ -1,7 +1,8 @@
 // The head of a job in the list: thirteen numbers of four bytes, the lowest first. Behind it lie the bytes of text, start, end, kind,
-// extra, entry and matrix, and then those of the ten rows, as the Rust original leaves them.
-ghost use Rattle.std.specs.Prelude.{◌≡◌, true, ◌↔◌, length};
-ghost use Rattle.replay.specs.Head.{head_bytes, head_of, value_count, Within};
+// extra, entry and matrix, and then those of the ten rows, as the Rust original leaves them. (The mode's five are fields and no struct of their own, since
+// `head_of` reads the list's numbers one by one in their order.)
+ghost use Rattle.std.specs.Prelude.{◌≡◌, true, ◌↔◌};
+ghost use Rattle.replay.specs.Head.{value_count, Within};
 ghost use Rattle.replay.specs.Given.{given_bytes};
 ghost use Rattle.replay.specs.Same.{recorded_bytes};
 
@@ -51,9 +52,8 @@ pub struct Head {
     pub numbers: Numbers,
 }
 
-// The recorded answer; its place is 0. (No From, nor below: each asks for just so many bytes.)
-fn numbers_of(bytes: &[u8]) -> Numbers
-    requires { length bytes.now ≡ head_bytes }
+// The recorded answer; its place is 0. (No From: `Numbers` and an array are both of other crates.)
+fn numbers_of(bytes: &[u8; HEAD_BYTES]) -> Numbers
     ensures { result ≡ Rattle.replay.specs.Head.numbers_in bytes.now }
 {
     Numbers {
@@ -64,11 +64,13 @@ fn numbers_of(bytes: &[u8]) -> Numbers
     }
 }
 
-impl Head {
-    pub fn of(bytes: &[u8]) -> Head
-        requires { length bytes.now ≡ head_bytes }
-        ensures { result ≡ head_of bytes.now }
-    {
+impl From<&[u8; HEAD_BYTES]> for Head {
+    ghost use Rattle.std.specs.Prelude.{◌≡◌};
+    ghost use Rattle.replay.specs.Head.{head_of};
+
+    ghost from_gives = { λ bytes head. head ≡ head_of bytes.now };
+
+    fn from(bytes: &[u8; HEAD_BYTES]) -> Head {
         Head {
             text: entry::four(bytes, 0),
             n: entry::four(bytes, 4),
@@ -83,7 +85,9 @@ impl Head {
             numbers: numbers_of(bytes),
         }
     }
+}
 
+impl Head {
     // How many values the matrix has.
     pub fn values(self) -> u64
         ensures { result ≡ value_count self }
@@ -91,7 +95,8 @@ impl Head {
         u64::from(self.height) * u64::from(self.width)
     }
 
-    // Whether the job keeps to the limits of the list. (A test, and no type: `head_of` says what any bytes tell.)
+    // Whether the job keeps to the limits of the list. (A test, and no type: `head_of` says what any bytes tell, so its
+    // value can be of no type with limits, and a second type would have the same eleven fields.)
     pub fn is_within(self) -> bool
         ensures { (result ≡ true) ↔ Within self }
     {

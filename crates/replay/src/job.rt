@@ -10,7 +10,7 @@ use crate::lent::{GivenRows, WrittenRows};
 use crate::{rows, same};
 use ground::answer::Numbers;
 
-// The rows of numbers that are given, out of their bytes.
+// The rows of numbers that are given, out of their bytes. (What is given is asked for here and below, and is no type, as a head's limits are none: head.rt has the reason.)
 fn widen(head: Head, given: &[u8], numbers: &mut GivenRows)
     requires { GivenWithin head given.now numbers.old }
     ensures filled { Filled head given.now numbers.old numbers.new }

@@ -60,7 +60,7 @@ fn next_head<R: Read>(list: &mut R) -> Result<Option<Head>, Broken>
     if got < HEAD_BYTES {
         return Err(Broken);
     }
-    let head = Head::of(&bytes);
+    let head = Head::from(&bytes);
     if head.is_within() {
         Ok(Some(head))
     } else {

@@ -16,7 +16,8 @@ pub fn fill<T: Told>(bytes: &[u8], from: usize, count: usize, row: &mut [T])
     }
 }
 
-// Whether a row holds what the bytes from a place on tell.
+// Whether a row holds what the bytes from a place on tell. (The place goes beside all of the bytes, here and in `fill`: rows lie one behind the other
+// in the list.)
 pub fn same<T: Told>(row: &[T], bytes: &[u8], from: usize) -> bool
     requires { from + T.WIDTH * length row.now ≤ length bytes.now }
     ensures { (result ≡ true) ↔ (row.now ≡ told (T.told_at bytes.now) T.WIDTH from (length row.now)) }

@@ -1,5 +1,5 @@
 // What the library left beside what the list tells of it: the four numbers and the ten rows, which lie one behind the other. (Places are those in
-// all of the bytes, as the list is laid out.)
+// all of the bytes, as the list is laid out, and so many places of each row: there is no heap, and the rows have room for any job.)
 ghost use Rattle.std.specs.Prelude.{◌≡◌, true, ◌↔◌, ◌+◌, ◌*◌, ◌≤◌, length};
 ghost use Rattle.replay.specs.Head.{Within};
 ghost use Rattle.replay.specs.Lent.{rows_of, PositionRoom, EntryRoom, WordRoom};

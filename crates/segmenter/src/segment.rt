@@ -78,7 +78,8 @@ fn work(
     finish(n, &job.candidates, &offset[..=n], rows, words)
 }
 
-// The whole job: every test before the first write. Past the tests every stored cost is in range.
+// The whole job: every test before the first write. Past the tests every stored cost is in range. (The offset and the run row stay parameters: out
+// of a struct a part of the run row would be lent on without its contents.)
 pub fn segment(
     job: &Job,
     offset: &mut [u32],

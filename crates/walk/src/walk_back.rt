@@ -8,7 +8,7 @@ use ground::answer::{Answer, Done, Refusal};
 use ground::entry::{CANDIDATE_LIMIT, Entry};
 use ground::text::CHARACTER_LIMIT;
 
-// What a link says at a position, unless it is broken.
+// What a link says at a position, unless it is broken. (No Option: its None would not say "start", and a broken link is a None already.)
 #[derive(Clone, Copy)]
 pub enum Link {
     ToStart,
@@ -41,6 +41,7 @@ fn link_at(start: &[u16], end: &[u16], position: usize, link: u16) -> Option<Lin
     Some(Link::ToCandidate { k })
 }
 
+// (Start, end and left go beside one another, as C's `walk_back` is lent them.)
 // The first pass: each link from the end mark on is tested, and the candidates are counted; none where a link is broken. Nothing is
 // written.
 pub fn count(start: &[u16], end: &[u16], left: &[u16], n: usize) -> Option<usize>

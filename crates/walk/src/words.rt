@@ -19,7 +19,8 @@ pub struct WordRows<'a> {
 }
 
 // So many links from the end mark on, and what is told of their candidates from the last place to the first. (walk_back's `write` takes the
-// same links. One walk for both would take a closure, and of the rows that a closure borrows no proof learns what they hold after it.)
+// same links. One walk for both would take a closure, and of the rows that a closure borrows no proof learns what they hold after it;
+// an iterator over links would need the count beside it as well.)
 fn write(candidates: &Candidates, offset: &[u32], left: &[u16], count: usize, rows: &mut WordRows)
     requires listed { Listed candidates.now.start.now candidates.now.kind.now candidates.now.entry.now offset.now
         × Sure left.now (length candidates.now.start.now + 1) count (length candidates.now.start.now + 1) }

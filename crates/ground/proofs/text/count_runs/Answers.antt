@@ -13,12 +13,6 @@ loop-i-init c =
     let a = c.args in
     (omega arith, refl, counted_none a.run.now a.n (omega arith), omega arith)
 
-pub run_of-requires : goal.run_of-requires
-run_of-requires c =
-    let l = c.loop-i in
-    let e : l.i - 1 + 1 ≡ l.i = omega arith in
-    rw e (omega arith)
-
 pub loop-i-preserved : goal.loop-i-preserved
 loop-i-preserved c =
     let l = c.loop-i in
@@ -35,13 +29,3 @@ loop-i-preserved c =
       rw (get_or-set_same l.run j c.run_of.result 0 (omega arith))
           (omega (arith, c.run_of.ensures, run_most (is_set (get_or l.run j 0)) (get_or l.run (j + 1) 0))),
     )
-
-pub shape_of-run : goal.shape_of-run
-shape_of-run c = c.loop-i.invariant.1
-
-pub returns : goal.returns
-returns c =
-    let l = c.loop-i in
-    let a = c.args in
-    let e : l.i ≡ 0 = omega arith in
-    subst (λ (k : ℕ). l.run ≡ take k a.run.now ++ behind a.run.now a.n k) e l.invariant.2

@@ -1,20 +1,15 @@
 use Prim.Native.Nat.{ℕ, ◌+◌, ◌≤◌}
 use mathlib.Core.Path.{◌∙◌, sym, subst}
 use native.Mathlib.Omega.{arith}
-use lib.ListN.{length, drop, set, length-set}
+use lib.ListN.{length, drop, set}
 use Rattle.ground.specs.Text.{letters, offsets}
 use Rattle.ground.specs.Filling.{letter_of_size, kanji_bits}
-use Rattle.ground.proofs.Filled.{Filled, filled_none, filled_more, filled_all}
+use Rattle.ground.proofs.Filled.{Filled, filled_more, filled_all}
 use Rattle.ground.proofs.LetterLaws.{letter_ends}
 use Rattle.ground.proofs.TextLaws.{letters_left, sizes_none}
 use Rattle.ground.proofs.RowLaws.{sets_over, offsets_length, bits_length}
 use Rattle.ground.proofs.text.fill_bits.Goals as goal
 use Rattle.ground.proofs.text.fill_bits.Goals.{After-known_step-step}
-
-pub loop-i-init : goal.loop-i-init
-loop-i-init c =
-    let a = c.args in
-    filled_none a.text.now a.offset.now a.run.now
 
 pub known_step-step-requires : goal.known_step-step-requires
 known_step-step-requires c =
@@ -35,12 +30,6 @@ loop-i-preserved c =
     (set c.loop-i.run c.loop-i.i mark) (c.loop-i.at + c.known_step-step.result.size) (c.loop-i.i + 1))
     (sym c.known_step-step.ensures.bit)
     (filled_more (c.args.text.now) a.offset.now a.run.now c.loop-i.offset c.loop-i.run c.loop-i.at c.loop-i.i (letter_of_size (drop c.loop-i.at (c.args.text.now)) c.known_step-step.result.size) c.known_step-step.ensures.letter c.loop-i.invariant)
-
-pub shape_of-offset : goal.shape_of-offset
-shape_of-offset c = let l = c.loop-i in length-set l.offset c.args.n l.at ∙ l.invariant.offset_long
-
-pub shape_of-run : goal.shape_of-run
-shape_of-run c = let l = c.loop-i in length-set l.run c.args.n 0 ∙ l.invariant.run_long
 
 pub returns : goal.returns
 returns c =

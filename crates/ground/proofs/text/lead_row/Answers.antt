@@ -1,6 +1,6 @@
 -- Row by row. Assumes nothing.
 use Prim.Native.Nat.{ℕ, suc}
-use mathlib.Core.Path.{◌≡◌, refl, ap, ◌∙◌, sym}
+use mathlib.Core.Path.{◌≡◌, ap, ◌∙◌, sym}
 use mathlib.Core.Bool.{Bool, true, false, cond}
 use native.Mathlib.Omega.{arith}
 use native.Mathlib.Numerals.{add-one}
@@ -15,9 +15,6 @@ use Rattle.ground.proofs.text.lead_row.Goals.{After-within}
 
 abbrev none : Lead
 none = lead 0 0 0 0 0
-
-pub loop-row-init : goal.loop-row-init
-loop-row-init c = refl
 
 -- the row at the index has the byte, or not
 here : (c : goal.After-within) (t : Bool) → c.within.result ≡ t

@@ -23,12 +23,6 @@ third c t e =
     second (goal.at.After-within-2 c).After-within true c.if-not-within.false
     ∙ rw (k, follow_later (c.args.bytes.now) (c.args.row.size - 3) 2 (omega arith), sym c.within-2.ensures ∙ e)
 
-pub returns-then-size-eq1 : goal.returns-then-size-eq1
-returns-then-size-eq1 c = rw c.if-size-eq1.true
-
-pub returns-then-not-within : goal.returns-then-not-within
-returns-then-not-within c = sym (second (goal.at.returns-then-not-within c).After-within false c.if-not-within.true)
-
 pub returns-then-size-eq2 : goal.returns-then-size-eq2
 unfolding all_later
 returns-then-size-eq2 c =

@@ -12,10 +12,11 @@ use mir.Val.{SFits, to_z, of_z}
 use mir.Facts.{to_z-of_z}
 use Rattle.ground.specs.Entry.{entry_at}
 use Rattle.ground.specs.Matrix.{value_in}
+use Rattle.ground.proofs.SignedLaws.{back}
 use Rattle.lattice.specs.Words.{given_by}
 use Rattle.lattice.specs.Rows.{held}
 use Rattle.lattice.specs.Inner.{charge_to, Offering, Near}
-use Rattle.lattice.proofs.SizeLaws.{fits, back, near_offer, joined_fits, offer_fits}
+use Rattle.lattice.proofs.SizeLaws.{fits, near_offer, joined_fits, offer_fits}
 use Rattle.lattice.proofs.relaxation.offers_of.Goals as goal
 use Rattle.lattice.proofs.relaxation.offers_of.Goals.{After-charge-charged, After-joint-2, Start}
 
@@ -41,10 +42,10 @@ module _ (c : goal.After-charge-charged) (row : List ℤ) (o : Offering row (giv
   joint_small = rw joint_read at small
 
   joint_is : to_z w32 (of_z w32 joint) ≡ J
-  joint_is = back joint (omega (arith, small)) ∙ joint_read
+  joint_is = back w32 joint (omega (arith, small)) ∙ joint_read
 
   charge_is : to_z w32 (of_z w32 c.charge-charged.result) ≡ pos charged
-  charge_is = back c.charge-charged.result c.charge-charged.type_inv ∙ c.charge-charged.ensures
+  charge_is = back w32 c.charge-charged.result c.charge-charged.type_inv ∙ c.charge-charged.ensures
 
   abbrev summed : ℤ
   summed =
