@@ -16,6 +16,9 @@ use ground::entry::{CANDIDATE_LIMIT, Entry, Kind};
 use ground::matrix::{Matrix, SIZE_LIMIT};
 use ground::text;
 
+// The highest number that names a kind: the sweep looks at the highest of a row alone.
+const KIND_LIMIT: u16 = 2;
+
 // What the tests of the inputs leave: the number of characters, and the mode.
 #[derive(Clone, Copy)]
 pub struct Passed {
@@ -232,7 +235,7 @@ fn all_pass(n: usize, candidates: &Candidates, matrix: &Matrix) -> bool
         ..
     } = *candidates;
     let c = start.len();
-    if highest(c, |k| u16::from(bad_kind(kind[k]))) != 0 {
+    if KIND_LIMIT < highest(c, |k| u16::from(kind[k])) {
         return false;
     }
     if highest(c.saturating_sub(1), |k| u16::from(start[k + 1] < start[k])) != 0 {

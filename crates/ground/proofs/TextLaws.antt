@@ -75,7 +75,7 @@ sizes_none (letter ∷ more) e = absurd (omega arith)
 
 -- ---- the longest run
 
--- Some well-formed characters, one after the other, from the bytes' start.
+-- Whole well-formed characters, one after the other, from the bytes' start.
 pub data Begins : List ℕ → List Letter → Type 0 where
   none : {bytes : List ℕ} → Begins bytes []
   one : {bytes : List ℕ} {letter : Letter} {more : List Letter} → letter_at bytes ≡ Some letter

@@ -205,6 +205,38 @@ told {position} {es} held away (suc k) h m =
       is = rw (q, held.costs (suc k) h, held.right k h, held.charge k h end);
     }
 
+-- What rows hold for the relaxation, they hold with another left row too: it does not read that one.
+pub any_left : {position : ℕ} {es : List LatticeEntry} {row : List ℤ} {g : Given} {r : LatticeRows} (left : List ℕ) → Held position es row g r
+    → Held position es row g (record r { left = left })
+any_left left h =
+    record {
+      few = h.few;
+      marked = h.marked;
+      begins = h.begins;
+      away = h.away;
+      in_first = h.in_first;
+      head = h.head;
+      in_last = h.in_last;
+      tail = h.tail;
+      in_next = h.in_next;
+      follows = h.follows;
+      right = h.right;
+      charge = h.charge;
+      costs = h.costs;
+      offering =
+          λ k i e.
+          let o = h.offering k i e in
+          record {
+            charged = o.charged;
+            bytes = o.bytes;
+            joined = o.joined;
+            costed = o.costed;
+            within = o.within;
+            most = o.most;
+            least = o.least;
+          };
+    }
+
 -- Of two offers that lie near, the cheaper one does.
 pub near_against : (position : ℕ) (held rival : Offer) → Near position held.cost → Near position rival.cost
     → Near position (against cheaper held (Some rival)).cost

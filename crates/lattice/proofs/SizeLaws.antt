@@ -88,6 +88,10 @@ offer_fits position cost joint charge most least small within =
     let near = near_offer position cost joint charge most least small in
     fits w32 (cost +ℤ joint +ℤ pos charge) (omega (arith, near.most)) (omega (arith, near.least))
 
+-- A joint alone lies near.
+pub near_joint : (position : ℕ) (joint : ℤ) → mag joint < 2 ^ 15 → Near position joint
+near_joint position joint small = record { most = omega (arith, up_mag joint); least = omega (arith, down_mag joint) }
+
 -- Document 01's range, by the two distances.
 pub in_range : (z : ℤ) → up z ≤ character_limit * most_each + 32767 → down z ≤ character_limit * least_each + 32768 → InRange z
 in_range z h l = record { least = le_show least_cost z (omega arith); most = le_show z most_cost (omega arith) }

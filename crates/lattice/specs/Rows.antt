@@ -6,6 +6,7 @@ use Rattle.ground.specs.Rows.{over}
 use Rattle.lattice.specs.Words.{up_from}
 use Rattle.lattice.specs.Lattice.{LatticeEntry, ends_at}
 use Rattle.lattice.specs.declared.rows.Rows.{Rows}
+use Rattle.lattice.specs.declared.rows.ReadRows.{ReadRows}
 
 -- x where the test holds.
 abbrev pub only_if : {A : Type 0} → Bool → A → Option A
@@ -77,6 +78,10 @@ rows first last left cost next = record { first = first; last = last; left = lef
 -- What a caller's rows hold.
 abbrev pub held : Rows → LatticeRows
 held r = rows r.first.now r.last.now r.left.now r.cost.now r.next.now
+
+-- The same of rows that are lent to be read: there is no left among them.
+abbrev pub read : ReadRows → LatticeRows
+read r = rows r.first.now r.last.now [] r.cost.now r.next.now
 
 -- They are the same five rows, whatever they hold.
 pub record SameRows (old new : Rows) : Type 0 where

@@ -1,15 +1,15 @@
 // The forward pass (document 01, pieces 5 and 6): the start mark, the candidates in their order, the end mark.
-ghost use Rattle.std.specs.Prelude.{◌≡◌, suc, ◌+◌, ◌≤◌, ◌<◌, [], ◌∷◌, length, ◌+ℤ◌};
+ghost use Rattle.std.specs.Prelude.{◌≡◌, suc, ◌+◌, ◌≤◌, ◌<◌, List, [], ◌∷◌, length, ◌+ℤ◌};
 ghost use Rattle.ground.specs.Limits.{candidate_limit};
 ghost use Rattle.lattice.specs.Words.{given_by, count};
-ghost use Rattle.lattice.specs.Lattice.{start_mark, entries_to, lattice};
+ghost use Rattle.lattice.specs.Lattice.{LatticeEntry, mark, taken, start_mark, entries_to, lattice};
 ghost use Rattle.lattice.specs.Rows.{held, SameRows, Filled, Room};
 ghost use Rattle.lattice.specs.Accepted.{Accepted};
 ghost use Rattle.lattice.specs.Size.{AllInRange};
-ghost use Rattle.lattice.specs.Inner.{up, down, AllSized, Readable, incoming_of, beside_of, entries_before, SizedBefore};
+ghost use Rattle.lattice.specs.Inner.{up, down, in_row, NearTaken, one_of, other_of, HeldBoth, AllSized, Readable, incoming_of, beside_of, entries_before, SizedBefore};
 
-use crate::relaxation;
-use crate::rows::{self, NewEntry, Rows};
+use crate::relaxation::{self, Pair};
+use crate::rows::{self, NewEntry, ReadRows, Rows};
 use crate::sentence::Sentence;
 use ground::entry::Entry;
 use ground::matrix;
@@ -81,6 +81,29 @@ fn beside(k: usize, sentence: &Sentence) -> usize
     k + usize::from(start[k] == start[k + 1])
 }
 
+// The relaxation over rows that are the caller's to write: they are lent on to be read.
+fn relax(
+    position: u16,
+    row: &[i16],
+    other_row: &[i16],
+    sentence: &Sentence,
+    rows: &Rows,
+) -> Option<Pair>
+    requires { (es : List LatticeEntry) × HeldBoth position es row.now other_row.now (given_by sentence.now) (held rows.now) }
+    ensures taken { (es : List LatticeEntry)
+        → HeldBoth position es row.now other_row.now (given_by sentence.now) (held rows.now)
+        → (one_of result ≡ taken (in_row row.now) es (mark position)) × (other_of result ≡ taken (in_row other_row.now) es (mark position)) }
+    ensures near_taken { NearTaken position (one_of result) × NearTaken position (other_of result) }
+{
+    let lent = ReadRows {
+        first: rows.first,
+        last: rows.last,
+        cost: rows.cost,
+        next: rows.next,
+    };
+    relaxation::relax(position, row, other_row, sentence, &lent)
+}
+
 // Words k and beside k go into the lattice; the number of the word behind them comes back. (What is accepted, and the room, are asked for here and
 // below, and are no types: the theorems take `Accepted` and `Room` of the rules' own records.)
 fn two_words(k: usize, n: usize, sentence: &Sentence, rows: &mut Rows) -> usize
@@ -99,7 +122,7 @@ fn two_words(k: usize, n: usize, sentence: &Sentence, rows: &mut Rows) -> usize
         sentence.width,
         usize::from(other_word.left_id),
     );
-    let pair = relaxation::relax(word.start, row, other_row, sentence, rows);
+    let pair = relax(word.start, row, other_row, sentence, rows);
     rows::enter_two(
         NewEntry {
             number: (k + 1) as u16,

@@ -4,10 +4,10 @@ ghost use Rattle.std.specs.Prelude.{◌≡◌, suc, ◌<◌, List, length, get_o
 ghost use Rattle.ground.specs.Entry.{none_link};
 ghost use Rattle.lattice.specs.Words.{given_by};
 ghost use Rattle.lattice.specs.Lattice.{LatticeEntry, mark, cheaper, against, taken};
-ghost use Rattle.lattice.specs.Rows.{held};
+ghost use Rattle.lattice.specs.Rows.{read};
 ghost use Rattle.lattice.specs.Inner.{in_row, charge_to, Chargeable, offer_of, Offering, start_offer, Near, NearPair, NearTaken, one_of, other_of, HeldBoth};
 
-use crate::rows::Rows;
+use crate::rows::ReadRows;
 use crate::sentence::Sentence;
 use ground::charge::Mode;
 use ground::entry::Entry;
@@ -50,12 +50,12 @@ fn offers_of(
     row: &[i16],
     other_row: &[i16],
     sentence: &Sentence,
-    rows: &Rows,
+    rows: &ReadRows,
 ) -> Pair
     requires fits { suc k < none_link }
-    requires offering { Offering row.now (given_by sentence.now) (held rows.now) position k × Offering other_row.now (given_by sentence.now) (held rows.now) position k }
-    ensures one { result.one ≡ offer_of row.now (given_by sentence.now) (held rows.now) position k }
-    ensures other { result.other ≡ offer_of other_row.now (given_by sentence.now) (held rows.now) position k }
+    requires offering { Offering row.now (given_by sentence.now) (read rows.now) position k × Offering other_row.now (given_by sentence.now) (read rows.now) position k }
+    ensures one { result.one ≡ offer_of row.now (given_by sentence.now) (read rows.now) position k }
+    ensures other { result.other ≡ offer_of other_row.now (given_by sentence.now) (read rows.now) position k }
     ensures near_pair { NearPair position result }
 {
     let right_id = usize::from(Entry::right_id_of(sentence.candidates.entry, k));
@@ -86,7 +86,7 @@ fn cheaper_of(held: Offer, rival: Offer) -> Offer
 }
 
 // The least offers of the entries that end at a position, from the lowest to the highest. (The position and both rows of the matrix go beside one another in
-// three functions of this file alone, and the lowest entry has been read to be tested: a struct would only be taken apart again.)
+// three functions of this file and their caller alone, and the lowest entry has been read to be tested: a struct would only be taken apart again.)
 fn least_between(
     lowest: u16,
     highest: u16,
@@ -94,13 +94,13 @@ fn least_between(
     row: &[i16],
     other_row: &[i16],
     sentence: &Sentence,
-    rows: &Rows,
+    rows: &ReadRows,
 ) -> Pair
     requires lowest { (lowest ≡ get_or rows.now.first.now position 0) × (lowest ≡ none_link → ⊥) × (position ≡ 0 → ⊥)
         × (highest ≡ get_or rows.now.last.now position 0) }
-    requires held_both { (es : List LatticeEntry) × HeldBoth position es row.now other_row.now (given_by sentence.now) (held rows.now) }
+    requires held_both { (es : List LatticeEntry) × HeldBoth position es row.now other_row.now (given_by sentence.now) (read rows.now) }
     ensures least { (es : List LatticeEntry)
-        → HeldBoth position es row.now other_row.now (given_by sentence.now) (held rows.now)
+        → HeldBoth position es row.now other_row.now (given_by sentence.now) (read rows.now)
         → (Some result.one ≡ taken (in_row row.now) es (mark position)) × (Some result.other ≡ taken (in_row other_row.now) es (mark position)) }
     ensures near_pair { NearPair position result }
 {
@@ -136,11 +136,11 @@ pub fn relax(
     row: &[i16],
     other_row: &[i16],
     sentence: &Sentence,
-    rows: &Rows,
+    rows: &ReadRows,
 ) -> Option<Pair>
-    requires { (es : List LatticeEntry) × HeldBoth position es row.now other_row.now (given_by sentence.now) (held rows.now) }
+    requires { (es : List LatticeEntry) × HeldBoth position es row.now other_row.now (given_by sentence.now) (read rows.now) }
     ensures taken { (es : List LatticeEntry)
-        → HeldBoth position es row.now other_row.now (given_by sentence.now) (held rows.now)
+        → HeldBoth position es row.now other_row.now (given_by sentence.now) (read rows.now)
         → (one_of result ≡ taken (in_row row.now) es (mark position)) × (other_of result ≡ taken (in_row other_row.now) es (mark position)) }
     ensures near_taken { NearTaken position (one_of result) × NearTaken position (other_of result) }
 {

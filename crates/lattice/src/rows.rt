@@ -20,6 +20,15 @@ pub struct Rows<'a> {
     pub next: &'a mut [u16],
 }
 
+// The rows as the relaxation reads them: it writes none, so a caller may lend them shared. (It does not read left.)
+#[derive(Clone, Copy)]
+pub struct ReadRows<'a> {
+    pub first: &'a [u16],
+    pub last: &'a [u16],
+    pub cost: &'a [i32],
+    pub next: &'a [u16],
+}
+
 // No entry ends at the positions up to n. (C may lend a row that is longer.)
 pub fn clear(n: usize, row: &mut [u16])
     requires { n < length row.old }

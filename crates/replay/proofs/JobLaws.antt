@@ -19,7 +19,7 @@ use Rattle.replay.specs.Same.{Recorded, Answered}
 use Rattle.replay.proofs.ToldLaws.{told_taken}
 
 -- the rows that are filled give the job that the bytes tell
-job_told : (head : Head) (bytes : List ℕ) {old new : GivenRows} → Filled head bytes old new → job_lent head bytes new ≡ job_of head bytes
+pub job_told : (head : Head) (bytes : List ℕ) {old new : GivenRows} → Filled head bytes old new → job_lent head bytes new ≡ job_of head bytes
 job_told head bytes {old} {new} told =
     let s = ap (take head.c) told.start ∙ told_taken (u16_at bytes) 2 old.start.now head.text head.c in
     let e = ap (take head.c) told.end ∙ told_taken (u16_at bytes) 2 old.end.now (end_from head) head.c in

@@ -12,12 +12,12 @@ use Rattle.ground.specs.Rows.{over}
 use Rattle.replay.specs.Numbers.{told}
 
 module _ {A : Type 0} (read : ℕ → A) (width : ℕ) where
-  told_length : (from count : ℕ) → length (told read width from count) ≡ count
+  pub told_length : (from count : ℕ) → length (told read width from count) ≡ count
   unfolding told
   told_length from zero = refl
   told_length from (suc count) = ap suc (told_length (from + width) count)
 
-  told_at : (from count k : ℕ) (d : A) → k < count → get_or (told read width from count) k d ≡ read (from + width * k)
+  pub told_at : (from count k : ℕ) (d : A) → k < count → get_or (told read width from count) k d ≡ read (from + width * k)
   unfolding told
   told_at from zero k d h = absurd (omega arith)
   told_at from (suc count) zero d h = let q : from ≡ from + width * 0 = omega arith in ap read q

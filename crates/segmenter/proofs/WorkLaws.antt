@@ -1,12 +1,13 @@
 -- The work of a job that passed its tests: what its steps leave is what `worked` says. Assumes that the lattice accepts what is given.
-use Prim.Native.Nat.{ℕ, suc, ◌+◌, ◌<◌}
+use Prim.Native.Nat.{ℕ, suc, ◌+◌, ◌<◌, ◌^◌}
 use mathlib.Core.Path.{◌≡◌, refl, ap, ◌∙◌, sym}
 use mathlib.Core.Logic.{◌↔◌}
 use mathlib.Core.Bool.{Bool, true, false, not}
 use mathlib.Core.List.{List}
 use native.Mathlib.Omega.{arith}
 use lib.ListN.{length, get_or}
-use lib.IntN.{ℤ, pos}
+use lib.IntN.{ℤ, pos, negsuc}
+use lib.Signed.{mag}
 use borrow.Author.Tests.{eq-eqb, ne_eqb}
 use Rattle.ground.specs.Rows.{over}
 use Rattle.ground.specs.Entry.{none_link}
@@ -17,6 +18,8 @@ use Rattle.lattice.specs.Words.{Given, count}
 use Rattle.lattice.specs.Lattice.{entry_numbered, lattice}
 use Rattle.lattice.specs.Rows.{lefts, costs, rows, Filled}
 use Rattle.lattice.specs.Accepted.{Accepted}
+use Rattle.lattice.specs.Size.{InRange, least_cost, most_cost}
+use Rattle.lattice.proofs.OrderLaws.{le_read}
 use Rattle.lattice.proofs.LatticeLaws.{lattice_length}
 use Rattle.lattice.proofs.RuleLaws.{left_none}
 use Rattle.lattice.proofs.RowRules.{lefts_at}
@@ -50,6 +53,11 @@ module _ (n : ℕ) (g : Given) (ok : Accepted n g) where
   -- the cost that stands at its place is its cost
   pub end_cost : (old : List ℤ) → get_or (over (costs (lattice n g)) old) (count g + 1) (pos 0) ≡ (entry_numbered (lattice n g) (suc (count g))).cost
   end_cost old = let e : count g + 1 ≡ suc (count g) = omega arith in rw e (held_cost n g ok old (suc (count g)) (omega arith))
+
+-- a cost in document 01's range is held by thirty-two bits
+pub in_range_fits : (z : ℤ) → InRange z → mag z < 2 ^ 31
+in_range_fits (pos a) r = omega (arith, le_read (pos a) most_cost r.most)
+in_range_fits (negsuc a) r = omega (arith, le_read least_cost (negsuc a) r.least)
 
 -- the steps, put together
 module _ (ls : List Letter) (kind : List ℕ) (g : Given) (r : JobRows) (ok : Accepted (length ls) g) where

@@ -7,7 +7,7 @@ use lib.IntN.{ℤ}
 use Rattle.std.proofs.Common.{Some}
 use Rattle.lattice.specs.Words.{Word, given_by}
 use Rattle.lattice.specs.Lattice.{LatticeEntry, mark, entry_numbered, against, cheaper, offer, taken}
-use Rattle.lattice.specs.Rows.{held, nexts}
+use Rattle.lattice.specs.Rows.{nexts, read}
 use Rattle.lattice.specs.Inner.{in_row, Held}
 use Rattle.lattice.specs.declared.relaxation.Offer.{Offer}
 use Rattle.lattice.proofs.GoingLaws.{Visited, Turn, turn, begin, again, onward, done, Told, told, near_against}
@@ -16,11 +16,11 @@ use Rattle.lattice.proofs.relaxation.least_between.Goals.{After-loop-at, At-loop
 
 -- the rows hold some entries, by one of the two rows of the matrix
 abbrev Holds : goal.Start → List ℤ → List LatticeEntry → Type 0
-Holds s row es = Held s.args.position es row (given_by s.args.sentence.now) (held s.args.rows.now)
+Holds s row es = Held s.args.position es row (given_by s.args.sentence.now) (read s.args.rows.now)
 
 -- and tell of one of them
 abbrev Tells : goal.Start → List ℤ → List LatticeEntry → ℕ → Type 0
-Tells s row es f = Told s.args.position es row (given_by s.args.sentence.now) (held s.args.rows.now) f
+Tells s row es f = Told s.args.position es row (given_by s.args.sentence.now) (read s.args.rows.now) f
 
 -- the turn before the loop, of entry f
 module _ (s : goal.Start) (f : ℕ) (is : f ≡ s.args.lowest) (row : List ℤ) (es : List LatticeEntry) (h : Holds s row es) where

@@ -14,15 +14,15 @@ use Rattle.ground.specs.Entry.{entry_at}
 use Rattle.ground.specs.Matrix.{value_in}
 use Rattle.ground.proofs.SignedLaws.{back}
 use Rattle.lattice.specs.Words.{given_by}
-use Rattle.lattice.specs.Rows.{held}
+use Rattle.lattice.specs.Rows.{read}
 use Rattle.lattice.specs.Inner.{charge_to, Offering, Near}
 use Rattle.lattice.proofs.SizeLaws.{fits, near_offer, joined_fits, offer_fits}
 use Rattle.lattice.proofs.relaxation.offers_of.Goals as goal
 use Rattle.lattice.proofs.relaxation.offers_of.Goals.{After-charge-charged, After-joint-2, Start}
 
 -- by a row of the matrix, and the joint that was read of it
-module _ (c : goal.After-charge-charged) (row : List ℤ) (o : Offering row (given_by c.args.sentence.now) (held c.args.rows.now) c.args.position c.args.k)
-    (joint : ℤ) (read : joint ≡ value_in row c.from-right_id.result) (small : mag joint < 2 ^ 15) where
+module _ (c : goal.After-charge-charged) (row : List ℤ) (o : Offering row (given_by c.args.sentence.now) (read c.args.rows.now) c.args.position c.args.k)
+    (joint : ℤ) (is : joint ≡ value_in row c.from-right_id.result) (small : mag joint < 2 ^ 15) where
   abbrev cost : ℤ
   cost = get_or c.args.rows.now.cost.now (suc c.args.k) (pos 0)
 
@@ -36,7 +36,7 @@ module _ (c : goal.After-charge-charged) (row : List ℤ) (o : Offering row (giv
   cost_is = rw add-one (to_z-of_z (fits w32 cost (omega (arith, o.most, o.within)) (omega (arith, o.least, o.within))))
 
   joint_read : joint ≡ J
-  joint_read = read ∙ ap (value_in row) (c.from-right_id.ensures ∙ c.right_id_of.ensures)
+  joint_read = is ∙ ap (value_in row) (c.from-right_id.ensures ∙ c.right_id_of.ensures)
 
   joint_small : mag J < 2 ^ 15
   joint_small = rw joint_read at small
