@@ -86,7 +86,7 @@ fn cheaper_of(held: Offer, rival: Offer) -> Offer
 }
 
 // The least offers of the entries that end at a position, from the lowest to the highest. (The position and both rows of the matrix go beside one another in
-// three functions of this file and their caller alone, and the lowest entry has been read to be tested: a struct would only be taken apart again.)
+// three functions of this file and in the one that lends the rows on alone, and the lowest entry has been read to be tested: a struct would only be taken apart again.)
 fn least_between(
     lowest: u16,
     highest: u16,
