@@ -196,7 +196,9 @@ fn check_candidate(
     Ok(())
 }
 
-// The first refusal, candidate by candidate from number 0.
+// The first refusal, candidate by candidate from number 0. (Not inlined: in a job that passes it would only take registers from the rest, and here its loop
+// wants them.)
+#[inline(never)]
 fn first_refused(n: usize, candidates: &Candidates, matrix: &Matrix) -> Result<(), Refusal>
     requires { EvenRows candidates.now × (length candidates.now.start.now ≤ candidate_limit) }
     ensures { result ≡ unless (first_refusal n candidates.now matrix.now) tt }
